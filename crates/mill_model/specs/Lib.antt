@@ -1,0 +1,16 @@
+pub mod Mill
+pub mod Limits
+pub mod SignedSums
+pub mod Columns
+pub mod Plans
+pub mod Decisions
+pub mod Prices
+pub mod Trees
+pub mod Covers
+pub mod Fronts
+pub mod Assignments
+pub mod Closures
+pub mod Paths
+pub mod Plain
+pub mod Starts
+pub mod Laws

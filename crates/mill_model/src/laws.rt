@@ -1,0 +1,78 @@
+//! The laws that join the definitions. Each is the contract of a function that does nothing.
+
+ghost use Rattle.mill_model.specs.Laws.{PricesExcludePlans, PlansAnswerOnce, PlansAgreeBySlabs, TreesExcludePlans, TreesServeSmallerLimits, WholeCertificatesGiveTheFront, NoPointMeansNoPlan, GoodHeadsBeginTheFront, NoCoverWhereRefuted, OneFront, TreesHaveFewNodes, StepsBeginOneTree, PlansAgreeWithWhatFollows, ColumnsAgreeWithWhatFollows, SizesAreLossAndWeights};
+
+/// The sizes of a legal plan's slabs sum to its loss and the weights of all orders: the loss isn't cut off at 0.
+pub fn sizes_are_loss_and_weights()
+    ensures { SizesAreLossAndWeights }
+{}
+
+/// A mill has at most one Pareto front.
+pub fn a_mill_has_one_front()
+    ensures { OneFront }
+{}
+
+/// Refuting prices exclude plans (Farkas' lemma, the sound half).
+pub fn prices_exclude_plans()
+    ensures { PricesExcludePlans }
+{}
+
+/// A plan agrees with exactly one answer of each question.
+pub fn plans_answer_once()
+    ensures { PlansAnswerOnce }
+{}
+
+/// A legal plan and its columns agree alike.
+pub fn plans_agree_by_slabs()
+    ensures { PlansAgreeBySlabs }
+{}
+
+/// A legal plan agrees with what follows from its decisions.
+pub fn plans_agree_with_what_follows()
+    ensures { PlansAgreeWithWhatFollows }
+{}
+
+/// A column agrees with what follows from its decisions.
+pub fn columns_agree_with_what_follows()
+    ensures { ColumnsAgreeWithWhatFollows }
+{}
+
+/// A tree excludes plans.
+pub fn trees_exclude_plans()
+    ensures { TreesExcludePlans }
+{}
+
+/// A tree serves smaller limits.
+pub fn trees_serve_smaller_limits()
+    ensures { TreesServeSmallerLimits }
+{}
+
+/// A finished or unfinished tree has at most one node less than twice 2 to the number of questions.
+pub fn trees_have_few_nodes()
+    ensures { TreesHaveFewNodes }
+{}
+
+/// A list of steps begins with at most one tree.
+pub fn steps_begin_one_tree()
+    ensures { StepsBeginOneTree }
+{}
+
+/// The gap law: the points of a good whole certificate are the Pareto front.
+pub fn whole_certificates_give_the_front()
+    ensures { WholeCertificatesGiveTheFront }
+{}
+
+/// Where a good whole certificate has no point, no plan is legal.
+pub fn no_point_means_no_plan()
+    ensures { NoPointMeansNoPlan }
+{}
+
+/// The points of a good head but the last are undominated, and the last has the least loss of those that fall below the point before it.
+pub fn good_heads_begin_the_front()
+    ensures { GoodHeadsBeginTheFront }
+{}
+
+/// A fractional cover and refuting prices exclude each other (weak duality).
+pub fn no_cover_where_refuted()
+    ensures { NoCoverWhereRefuted }
+{}

@@ -1,0 +1,45 @@
+//! The steel mill slab design problem (CSPLib problem 038) with a yard of surplus slabs: mills, plans, their Pareto front,
+//! and the certificates that prove one, with the laws that join these definitions.
+#![tactic(auto)]
+
+mod ask;
+mod front;
+mod head;
+mod illegal;
+mod kind;
+mod laws;
+mod limits;
+mod mill;
+mod open_tree;
+mod order;
+mod plan;
+mod prices;
+mod proved;
+mod starter;
+mod steps;
+mod sums;
+mod yard;
+
+pub use ask::Ask;
+pub use front::Front;
+pub use head::Head;
+pub use illegal::Illegal;
+pub use kind::Kind;
+pub use laws::{
+    a_mill_has_one_front, columns_agree_with_what_follows, good_heads_begin_the_front,
+    no_cover_where_refuted, no_point_means_no_plan, plans_agree_by_slabs,
+    plans_agree_with_what_follows, plans_answer_once, prices_exclude_plans,
+    sizes_are_loss_and_weights, steps_begin_one_tree, trees_exclude_plans, trees_have_few_nodes,
+    trees_serve_smaller_limits, whole_certificates_give_the_front,
+};
+pub use limits::Limits;
+pub use mill::Mill;
+pub use open_tree::OpenTree;
+pub use order::Order;
+pub use plan::Plan;
+pub use prices::Prices;
+pub use proved::Proved;
+pub use starter::Starter;
+pub use steps::{Step, Steps};
+pub use sums::Sums;
+pub use yard::Yard;

@@ -1,0 +1,42 @@
+ghost use Rattle.std.specs.Prelude.{◌≡◌};
+
+use crate::Kind;
+use std::marker::Model;
+
+/// A plan: its slabs, and for each order the number of the slab on which it lies.
+#[derive(Drop)]
+pub struct Plan {
+    kinds: Vec<Kind>,
+    place: Vec<u16>,
+}
+
+impl Model for Plan {
+    ghost use Rattle.mill_model.specs.Plans.{Plan};
+
+    ghost Value = { Plan };
+
+    ghost view = { λ p. record { kinds = p.kinds.items; place = p.place.items } };
+}
+
+impl Plan {
+    /// The plan of these slabs and these places. Any lists make a plan: whether it is legal is told by judging.
+    pub fn new(kinds: Vec<Kind>, place: Vec<u16>) -> Plan
+        ensures { result ≡ record { kinds = kinds.items; place = place.items } }
+    {
+        Plan { kinds, place }
+    }
+
+    /// The slabs. Calls number them from 0, texts from 1.
+    pub fn kinds(&self) -> &[Kind]
+        ensures { result.now ≡ self.now.kinds }
+    {
+        &self.kinds
+    }
+
+    /// For each order, in order, the number of its slab.
+    pub fn place(&self) -> &[u16]
+        ensures { result.now ≡ self.now.place }
+    {
+        &self.place
+    }
+}
