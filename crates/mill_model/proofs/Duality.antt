@@ -19,7 +19,7 @@ use Rattle.mill_model.proofs.Signed.{mul_add, mul_le, mul_le_pos, mul_lt_pos, mu
 -- ---- one column
 
 -- one term of a sum
-one_term_past : (n k : ℕ) (f : ℕ → ℤ) → n ≤ k → total_below n (λ i. cond (eqb k i) (f i) (pos 0)) ≡ pos 0
+pub one_term_past : (n k : ℕ) (f : ℕ → ℤ) → n ≤ k → total_below n (λ i. cond (eqb k i) (f i) (pos 0)) ≡ pos 0
 one_term_past zero k f h = refl
 one_term_past (suc n) k f h =
     let e : eqb k n ≡ false = ne_eqb k n (λ q. omega arith) in

@@ -1,11 +1,15 @@
 -- What a loop over the places keeps, and other forms of the rules of a plan.
-use Rattle.std.proofs.Common.{◌≡◌, ℕ, suc, ◌+◌, ◌<◌, ◌≤◌, Bool, true, false, cond, ◌||◌, eqb, List, [], ◌∷◌, ◌++◌, length, get_or, take, count_by, refl, sym, ap, ◌∙◌, inl, inr, arith, length-take, zero-add}
+use Rattle.std.proofs.Common.{◌≡◌, ℕ, suc, pos, ◌+ℤ◌, ◌≤ℤ◌, append_assoc, append-nil, ◌+◌, ◌<◌, ◌≤◌, Bool, true, false, cond, ◌||◌, eqb, List, [], ◌∷◌, ◌++◌, length, get_or, take, count_by, refl, sym, ap, ◌∙◌, inl, inr, arith, length-take, zero-add}
 use Rattle.std.proofs.lemmas.List.Sums.{sum_by-cons, sum_by-append}
 use Rattle.std.proofs.lemmas.List.{take_more}
-use Rattle.std.proofs.lemmas.Bool.{eqb-true, eq-eqb, ne_eqb, cases_Bool, cases_eq, cond-true, cond-false, cond_both, both_ways, or_cases, or_left, or_right, false_from_ne_true}
+use Rattle.std.proofs.lemmas.Bool.{eqb-true, eq-eqb, ne_eqb, cases_Bool, cases_eq, cases_lt, cond-true, cond-false, cond_both, both_ways, or_cases, or_left, or_right, false_from_ne_true}
+use Rattle.std.proofs.lemmas.Int.{ints}
+use Rattle.mill_model.specs.SignedSums.{total_below}
 use Rattle.mill_model.specs.Mill.{Mill}
 use Rattle.mill_model.specs.Columns.{has, different, load, order_at}
 use Rattle.mill_model.specs.Plans.{places_of}
+use Rattle.mill_model.proofs.Signed.{total_below-ext, total_below-le, total_below-add, total_below-zero, total_below-ones}
+use Rattle.mill_model.proofs.Duality.{one_term, one_term_past}
 
 -- ---- one more place
 
@@ -130,3 +134,71 @@ load-more m k place o h =
     by_test : (b : Bool) → load m (cond b ((0 + length (take o place)) ∷ []) []) ≡ cond b (order_at m o).weight 0
     by_test true = ap (λ n. 0 + (order_at m n).weight) (omega (arith, length-take o place)) ∙ zero-add (order_at m o).weight
     by_test false = refl
+
+-- ---- empty slabs
+
+pub places_of-none : (k first : ℕ) (xs : List ℕ) → has xs k ≡ false → places_of k first xs ≡ []
+places_of-none k first [] e = refl
+places_of-none k first (x ∷ xs) e = elim (cases_Bool (eqb x k)) [
+  | inl q ↦ absurd (both_ways (eqb x k || has xs k) e (or_left (eqb x k) (has xs k) q))
+  | inr q ↦ rw q (places_of-none k (suc first) xs (rest q e))
+]
+  where
+    rest : eqb x k ≡ false → (eqb x k || has xs k) ≡ false → has xs k ≡ false
+    rest p h = rw p at h
+
+pub places_of-some : (k first : ℕ) (xs : List ℕ) → has xs k ≡ true → 0 < length (places_of k first xs)
+places_of-some k first [] e = cc
+places_of-some k first (x ∷ xs) e = elim (cases_Bool (eqb x k)) [
+  | inl q ↦ rw q (omega arith)
+  | inr q ↦ rw q (places_of-some k (suc first) xs (rest q e))
+]
+  where
+    rest : eqb x k ≡ false → (eqb x k || has xs k) ≡ true → has xs k ≡ true
+    rest p h = rw p at h
+
+-- the slabs have at most as many orders as there are
+most_places : (first n : ℕ) (xs : List ℕ) → total_below n (λ k. pos (length (places_of k first xs))) ≤ℤ pos (length xs)
+most_places first n [] = omega (arith, ints, total_below-zero n)
+most_places first n (x ∷ xs) =
+    let split : total_below n (λ k. pos (length (places_of k first (x ∷ xs)))) ≡ total_below n (λ k. cond (eqb x k) (pos 1) (pos 0) +ℤ pos (length (places_of k (suc first) xs))) =
+    total_below-ext n (λ k. pos (length (places_of k first (x ∷ xs)))) (λ k. cond (eqb x k) (pos 1) (pos 0) +ℤ pos (length (places_of k (suc first) xs))) (λ k h. apart (eqb x k) (places_of k (suc first) xs)) in
+    omega (arith, ints, split, total_below-add n (λ k. cond (eqb x k) (pos 1) (pos 0)) (λ k. pos (length (places_of k (suc first) xs))), most_places (suc first) n xs, at_most_one)
+  where
+    apart : (b : Bool) (ys : List ℕ) → pos (length (cond b (first ∷ ys) ys)) ≡ cond b (pos 1) (pos 0) +ℤ pos (length ys)
+    apart true ys = omega (arith, ints)
+    apart false ys = omega (arith, ints)
+
+    at_most_one : total_below n (λ k. cond (eqb x k) (pos 1) (pos 0)) ≤ℤ pos 1
+    at_most_one = elim (cases_lt x n) [
+      | inl l ↦ omega (arith, ints, one_term n x (λ _. pos 1) l)
+      | inr l ↦ omega (arith, ints, one_term_past n x (λ _. pos 1) l)
+    ]
+
+-- so many slabs that each have an order are no more than the orders
+pub slabs_with_orders : (n : ℕ) (place : List ℕ) → ((k : ℕ) → k < n → 0 < length (places_of k 0 place)) → n ≤ length place
+slabs_with_orders n place each =
+    let least : total_below n (λ _. pos 1) ≤ℤ total_below n (λ k. pos (length (places_of k 0 place))) = total_below-le n (λ _. pos 1) (λ k. pos (length (places_of k 0 place))) (λ k h. omega (arith, ints, each k h)) in
+    omega (arith, ints, least, total_below-ones n, most_places 0 n place)
+
+-- ---- colours
+
+pub different-append_le : (xs ys : List ℕ) → different xs ≤ different (xs ++ ys)
+different-append_le xs [] = rw append-nil (omega arith)
+different-append_le xs (y ∷ ys) = rw (sym (append_assoc xs (y ∷ []) ys)) (omega (arith, different-append_le (xs ++ y ∷ []) ys, one_more))
+  where
+    one_more : different xs ≤ different (xs ++ y ∷ [])
+    one_more = rw (different-push xs y) (grows (has xs y) (different xs))
+      where
+        grows : (b : Bool) (n : ℕ) → n ≤ cond b n (suc n)
+        grows true n = omega arith
+        grows false n = omega arith
+
+pub places_of-append : (k first : ℕ) (xs ys : List ℕ) → places_of k first (xs ++ ys) ≡ places_of k first xs ++ places_of k (first + length xs) ys
+places_of-append k first [] ys = ap (λ n. places_of k n ys) (omega arith)
+places_of-append k first (x ∷ xs) ys = by_test (eqb x k) (places_of-append k (suc first) xs ys ∙ ap (λ n. places_of k (suc first) xs ++ places_of k n ys) (omega arith))
+  where
+    by_test : (b : Bool) → places_of k (suc first) (xs ++ ys) ≡ places_of k (suc first) xs ++ places_of k (first + suc (length xs)) ys
+        → cond b (first ∷ places_of k (suc first) (xs ++ ys)) (places_of k (suc first) (xs ++ ys)) ≡ cond b (first ∷ places_of k (suc first) xs) (places_of k (suc first) xs) ++ places_of k (first + suc (length xs)) ys
+    by_test true e = ap (λ zs. first ∷ zs) e
+    by_test false e = e

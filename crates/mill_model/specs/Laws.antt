@@ -1,5 +1,5 @@
 -- The laws that join the definitions, as statements.
-use Rattle.std.specs.Prelude.{◌≡◌, ◌↔◌, ℕ, ◌+◌, ◌^◌, ◌≤◌, ◌<◌, Bool, true, List, [], ◌∷◌, ◌++◌, length, sum_by, Option, None}
+use Rattle.std.specs.Prelude.{◌≡◌, ◌↔◌, ℕ, ◌+◌, ◌≤◌, ◌<◌, Bool, true, List, [], ◌∷◌, ◌++◌, length, sum_by, Option, None}
 use Rattle.std.specs.List.{AllByRecursion}
 use Rattle.mill_model.specs.declared.ask.Ask.{Ask}
 use Rattle.mill_model.specs.declared.order.Order.{Order}
@@ -13,6 +13,7 @@ use Rattle.mill_model.specs.Decisions.{Decision, IsAsk, AreAsks, PlanAgrees, ans
 use Rattle.mill_model.specs.Limits.{IsWithin, AreSmaller}
 use Rattle.mill_model.specs.Trees.{Plain, preorder, IsRefutation, IsOpenTree, most_nodes}
 use Rattle.mill_model.specs.Columns.{Column, size_of}
+use Rattle.mill_model.specs.Judging.{first_broken}
 use Rattle.mill_model.specs.Assignments.{Assignment, Agrees, Follows}
 use Rattle.mill_model.specs.Covers.{Part, IsCover}
 use Rattle.mill_model.specs.Fronts.{IsUndominated, IsFront, Point, FallsBelow, IsGoodHead, IsGoodWhole, last_sums, sums_list}
@@ -21,6 +22,10 @@ use Rattle.mill_model.specs.Fronts.{IsUndominated, IsFront, Point, FallsBelow, I
 abbrev pub SizesAreLossAndWeights : Type 0
 SizesAreLossAndWeights = (m : Mill) (p : Plan) → IsLegal m p →
     sum_by (size_of m) p.kinds ≡ (sums_of m p).loss + sum_by (λ (order : Order). order.weight) m.orders
+
+-- A plan breaks none of its rules exactly where it is legal.
+abbrev pub LegalPlansBreakNoRule : Type 0
+LegalPlansBreakNoRule = (m : Mill) (p : Plan) → (first_broken m p ≡ None) ↔ IsLegal m p
 
 -- Where prices refute the limits under the decisions, no legal plan that agrees is within them.
 abbrev pub PricesExcludePlans : Type 0

@@ -12,5 +12,7 @@ pub mod Assignments
 pub mod Closures
 pub mod Paths
 pub mod Plain
+pub mod Judging
+pub mod ColourSet
 pub mod Starts
 pub mod Laws

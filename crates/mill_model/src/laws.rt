@@ -1,10 +1,15 @@
 //! The laws that join the definitions. Each is the contract of a function that does nothing.
 
-ghost use Rattle.mill_model.specs.Laws.{PricesExcludePlans, PlansAnswerOnce, PlansAgreeBySlabs, TreesExcludePlans, TreesServeSmallerLimits, WholeCertificatesGiveTheFront, NoPointMeansNoPlan, GoodHeadsBeginTheFront, NoCoverWhereRefuted, OneFront, TreesHaveFewNodes, StepsBeginOneTree, PlansAgreeWithWhatFollows, ColumnsAgreeWithWhatFollows, SizesAreLossAndWeights};
+ghost use Rattle.mill_model.specs.Laws.{PricesExcludePlans, PlansAnswerOnce, PlansAgreeBySlabs, TreesExcludePlans, TreesServeSmallerLimits, WholeCertificatesGiveTheFront, NoPointMeansNoPlan, GoodHeadsBeginTheFront, NoCoverWhereRefuted, OneFront, TreesHaveFewNodes, StepsBeginOneTree, PlansAgreeWithWhatFollows, ColumnsAgreeWithWhatFollows, SizesAreLossAndWeights, LegalPlansBreakNoRule};
 
 /// The sizes of a legal plan's slabs sum to its loss and the weights of all orders: the loss isn't cut off at 0.
 pub fn sizes_are_loss_and_weights()
     ensures { SizesAreLossAndWeights }
+{}
+
+/// No rule is broken exactly where a plan is legal.
+pub fn legal_plans_break_no_rule()
+    ensures { LegalPlansBreakNoRule }
 {}
 
 /// A mill has at most one Pareto front.

@@ -3,9 +3,11 @@
 #![tactic(auto)]
 
 mod ask;
+mod colour_set;
 mod front;
 mod head;
 mod illegal;
+mod judge;
 mod kind;
 mod laws;
 mod limits;

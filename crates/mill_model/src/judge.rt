@@ -1,0 +1,239 @@
+//! The rules of a plan, tested in their order.
+
+ghost use Rattle.std.specs.Prelude.{◌≡◌, ◌<◌, ◌≤◌, ◌^◌, ◌∷◌, nat_eq, nat_lt, length, map, flat_map, sum_by, count_by, OnOk};
+ghost use Rattle.std.specs.List.{range_with_len};
+ghost use Rattle.mill_model.specs.Columns.{is_old as is_surplus, size_of as size_of_kind, load, colours_of};
+ghost use Rattle.mill_model.specs.Plans.{places_of, IsLegal, is_new, sums_of};
+ghost use Rattle.mill_model.specs.Plain.{total_weight as weight_of_orders};
+ghost use Rattle.mill_model.specs.Judging.{rules_of, slab_rules, AnswersFirst, is_unlisted, is_missing, is_among};
+
+use crate::colour_set::ColourSet;
+use crate::{Illegal, Kind, Mill, Plan, Sums};
+
+/// Tests all rules in their order.
+pub fn judge_rules(mill: &Mill, plan: &Plan) -> Result<(), Illegal>
+    ensures { AnswersFirst mill.now plan.now (rules_of plan.now) result }
+{
+    judge_places(mill, plan)?;
+    judge_slabs(mill, plan)
+}
+
+// Tests that there is one place for each order, and that each is a slab.
+fn judge_places(mill: &Mill, plan: &Plan) -> Result<(), Illegal>
+    ensures first { AnswersFirst mill.now plan.now (Illegal.Places ∷ map Illegal.Place (range_with_len 0 (length plan.now.place))) result }
+    ensures counted { OnOk result (length plan.now.place ≡ length mill.now.orders) }
+{
+    if plan.place().len() != mill.orders().len() {
+        return Err(Illegal::Places);
+    }
+    let slabs = plan.kinds().len();
+    for (order, place) in plan.place().iter().enumerate() {
+        if *place as usize >= slabs {
+            return Err(Illegal::Place(order as u16));
+        }
+    }
+    Ok(())
+}
+
+// Tests each slab in turn.
+fn judge_slabs(mill: &Mill, plan: &Plan) -> Result<(), Illegal>
+    requires { length plan.now.place ≡ length mill.now.orders }
+    ensures { AnswersFirst mill.now plan.now (flat_map slab_rules (range_with_len 0 (length plan.now.kinds))) result }
+{
+    let orders = mill.orders().len();
+    prove!(orders <= 250);
+    for k in 0..plan.kinds().len() {
+        judge_slab(mill, plan, k as u16)?;
+    }
+    Ok(())
+}
+
+// Tests the rules of slab k.
+fn judge_slab(mill: &Mill, plan: &Plan, k: u16) -> Result<(), Illegal>
+    requires slab { k < length plan.now.kinds }
+    requires places { length plan.now.place ≡ length mill.now.orders }
+    ensures { AnswersFirst mill.now plan.now (slab_rules k) result }
+{
+    let kind = plan.kinds()[k as usize];
+    if is_empty(plan.place(), k) {
+        return Err(Illegal::Empty(k));
+    }
+    if has_unlisted_size(mill, kind) {
+        return Err(Illegal::Size(k));
+    }
+    if is_not_in_yard(mill, kind) {
+        return Err(Illegal::Yard(k));
+    }
+    if is_used(&plan.kinds()[..k as usize], kind) {
+        return Err(Illegal::Twice(k));
+    }
+    if load_on(mill, plan.place(), k) > size_of(mill, kind) {
+        return Err(Illegal::Load(k));
+    }
+    if has_many_colours(mill, plan.place(), k) {
+        return Err(Illegal::Colours(k));
+    }
+    Ok(())
+}
+
+// Whether slab k has no order.
+fn is_empty(place: &[u16], k: u16) -> bool
+    ensures { result ≡ nat_eq (length (places_of k 0 place.now)) 0 }
+{
+    !place.contains(&k)
+}
+
+// Whether this is a new slab of a size that isn't listed.
+fn has_unlisted_size(mill: &Mill, kind: Kind) -> bool
+    ensures { result ≡ is_unlisted mill.now kind }
+{
+    match kind {
+        Kind::New(size) => !mill.sizes().contains(&size),
+        Kind::Old(_) => false,
+    }
+}
+
+// Whether this is a surplus slab that isn't in the yard.
+fn is_not_in_yard(mill: &Mill, kind: Kind) -> bool
+    ensures { result ≡ is_missing mill.now kind }
+{
+    match kind {
+        Kind::New(_) => false,
+        Kind::Old(slab) => slab as usize >= mill.yard().len(),
+    }
+}
+
+// Whether this is a surplus slab that stands among these slabs.
+fn is_used(kinds: &[Kind], kind: Kind) -> bool
+    ensures { result ≡ is_among kinds.now kind }
+{
+    match kind {
+        Kind::New(_) => false,
+        Kind::Old(slab) => has_surplus(kinds, slab),
+    }
+}
+
+// Whether this surplus slab stands among these slabs.
+fn has_surplus(kinds: &[Kind], slab: u16) -> bool
+    ensures { result ≡ is_among kinds.now (Kind.Old slab) }
+{
+    for kind in kinds {
+        if is_old(*kind, slab) {
+            return true;
+        }
+    }
+    false
+}
+
+// Whether this is that surplus slab.
+fn is_old(kind: Kind, slab: u16) -> bool
+    ensures { result ≡ is_surplus slab kind }
+{
+    match kind {
+        Kind::New(_) => false,
+        Kind::Old(other) => other == slab,
+    }
+}
+
+// What a slab can hold.
+fn size_of(mill: &Mill, kind: Kind) -> u32
+    ensures size { result ≡ size_of_kind mill.now kind }
+    ensures small { result < 2 ^ 16 }
+{
+    match kind {
+        Kind::New(size) => u32::from(size),
+        Kind::Old(slab) => u32::from(mill.yard().get(slab as usize).copied().unwrap_or(0)),
+    }
+}
+
+// What the orders on slab k weigh together.
+fn load_on(mill: &Mill, place: &[u16], k: u16) -> u32
+    requires { length place.now ≡ length mill.now.orders }
+    ensures { result ≡ load mill.now (places_of k 0 place.now) }
+{
+    let orders = mill.orders();
+    let mut sum: u32 = 0;
+    for o in 0..place.len() {
+        if place[o] == k {
+            sum += orders[o].weight as u32;
+        }
+    }
+    sum
+}
+
+// Whether the orders on slab k have more than two different colours.
+fn has_many_colours(mill: &Mill, place: &[u16], k: u16) -> bool
+    requires { length place.now ≡ length mill.now.orders }
+    ensures { result ≡ nat_lt 2 (colours_of mill.now (places_of k 0 place.now)) }
+{
+    let orders = mill.orders();
+    let mut colours = ColourSet::new();
+    for o in 0..place.len() {
+        if place[o] == k && !colours.add(orders[o].colour) {
+            return true;
+        }
+    }
+    false
+}
+
+/// The loss of a legal plan, and the number of its new slabs.
+pub fn sums(mill: &Mill, plan: &Plan) -> Sums
+    requires { IsLegal mill.now plan.now }
+    ensures { result ≡ sums_of mill.now plan.now }
+{
+    let orders = mill.orders().len();
+    prove!(orders <= 250);
+    Sums {
+        loss: total_size(mill, plan.kinds()) - total_weight(mill),
+        count: new_slabs(plan.kinds()),
+    }
+}
+
+// What all these slabs can hold.
+fn total_size(mill: &Mill, kinds: &[Kind]) -> u32
+    requires { length kinds.now ≤ 250 }
+    ensures { result ≡ sum_by (size_of_kind mill.now) kinds.now }
+{
+    let mut sum: u32 = 0;
+    for kind in kinds {
+        sum += size_of(mill, *kind);
+    }
+    sum
+}
+
+// What all orders weigh.
+fn total_weight(mill: &Mill) -> u32
+    ensures { result ≡ weight_of_orders mill.now }
+{
+    let orders = mill.orders();
+    prove!(orders.len() <= 250);
+    let mut sum: u32 = 0;
+    for order in orders {
+        sum += u32::from(order.weight);
+    }
+    sum
+}
+
+// How many of these slabs are new.
+fn new_slabs(kinds: &[Kind]) -> u16
+    requires { length kinds.now ≤ 250 }
+    ensures { result ≡ count_by is_new kinds.now }
+{
+    let mut count: u16 = 0;
+    for kind in kinds {
+        if is_new_slab(*kind) {
+            count += 1;
+        }
+    }
+    count
+}
+
+// Whether this is a new slab.
+fn is_new_slab(kind: Kind) -> bool
+    ensures { result ≡ is_new kind }
+{
+    match kind {
+        Kind::New(_) => true,
+        Kind::Old(_) => false,
+    }
+}
