@@ -1,0 +1,6 @@
+pub mod Words
+pub mod Fronts
+pub mod Lines
+pub mod NumberTexts
+pub mod LineTexts
+pub mod Feeds

@@ -1,0 +1,197 @@
+-- Lines and their texts.
+use Rattle.std.proofs.Common.{◌≡◌, ℕ, suc, ◌+◌, ◌≤◌, ℤ, Bool, true, false, not, cond, eqb, leb, ◌&&◌, ◌⊎◌, List, [], ◌∷◌, ◌++◌, Option, Some, None, Result, Ok, Err, length, map, codes, refl, ap, sym, ◌∙◌, inl, inr, arith, subst, IfOk}
+use Rattle.std.specs.List.{list_all, position_or_len, AllByRecursion}
+use Rattle.std.specs.Str.{bytes_eq}
+use Rattle.std.proofs.lemmas.List.{length-map, take-append-drop}
+use Rattle.std.proofs.lemmas.List.Elements.{All-from_recursion, recursion_from_All}
+use Rattle.std.proofs.lemmas.Bool.{le-leb, leb-true, eqb-true}
+use Rattle.std.proofs.lemmas.Slice.Eq.{bytes_eq-Decides}
+use Rattle.cert_view.specs.declared.line.Form.{Form}
+use Rattle.cert_view.specs.declared.line.Form.TheVariants as forms
+use Rattle.cert_view.specs.declared.line.Line.{Line}
+use Rattle.cert_view.specs.declared.line.Line.TheVariants as lines
+use Rattle.cert_view.specs.declared.line.Spelling.{Spelling}
+use Rattle.cert_view.specs.declared.line.Spelling.TheVariants as spellings
+use Rattle.cert_view.specs.Number.{is_number, is_within, number_value, IsWithin}
+use Rattle.cert_view.specs.Numbers.{is_space, is_spelled, first_word, words_after, numbers_of, after_word, IsSpaced, AreSpelled}
+use Rattle.cert_view.specs.Reading.{count_of}
+use Rattle.cert_view.specs.Line.{form_of, line_with, line_of, line_of_words}
+use Rattle.cert_view.specs.Text.{numbers_text, line_text, IsLine}
+use Rattle.cert_view.proofs.Words.{both, either, words_after-word, all_spelled, all_within, IsSpaced-first}
+use Rattle.cert_view.proofs.Lines.{line-form, some_injective, some_apart}
+use Rattle.cert_view.proofs.NumberTexts.{spelled-numbers_text, numbers_text-spelled}
+
+-- a word without a space ends where the first space stands
+word_front : (word bytes : List ℕ) → list_all (λ b. not (is_space b)) word ≡ true → IsSpaced bytes → (first_word (word ++ bytes) ≡ word) × (after_word (word ++ bytes) ≡ bytes)
+word_front [] [] h s = (refl, refl)
+word_front [] (b ∷ bytes) h s = (rw s refl, rw s refl)
+word_front (b ∷ word) bytes h s =
+    let parts = both (not (is_space b)) (list_all (λ b. not (is_space b)) word) h in
+    let rest = word_front word bytes parts.1 s in
+    let next : 1 + position_or_len is_space (word ++ bytes) ≡ suc (position_or_len is_space (word ++ bytes)) = omega arith in
+    (rw (parts.0, next) (ap (λ xs. b ∷ xs) rest.0), rw (parts.0, next) rest.1)
+
+-- the words of spelled numbers are counted as numbers in the range
+all_counted : (ws : List (List ℕ)) → list_all is_spelled ws ≡ true → (list_all is_number ws ≡ true) × (list_all is_within ws ≡ true)
+all_counted [] h = (refl, refl)
+all_counted (w ∷ ws) h =
+    let parts = both (is_spelled w) (list_all is_spelled ws) h in
+    let one = both (is_number w) (is_within w) parts.0 in
+    let rest = all_counted ws parts.1 in
+    (rw (one.0, rest.0) refl, rw (one.1, rest.1) refl)
+
+counted : (bytes : List ℕ) (n : ℕ) → AreSpelled bytes → length (numbers_of bytes) ≡ n → count_of (words_after bytes) ≡ Some (n, true)
+counted bytes n h len =
+    let parts = all_counted (words_after bytes) h.numbers in
+    let same : length (words_after bytes) ≡ n = sym (length-map (words_after bytes) _) ∙ len in
+    rw (parts.0, parts.1, same) refl
+
+-- a word and numbers of a form are read as the line
+line_from : (word : List ℕ) (ns : List ℤ) (form : Form) → list_all (λ b. not (is_space b)) word ≡ true → AllByRecursion IsWithin ns → bytes_eq (word ++ numbers_text ns) (codes "slabfront 1") ≡ false → form_of word (length ns) ≡ Some form → line_of (word ++ numbers_text ns) ≡ Ok (line_with form ns)
+unfolding line_of
+line_from word ns form spaceless within other is_form =
+    let spelled = spelled-numbers_text ns within in
+    let front = word_front word (numbers_text ns) spaceless spelled.0.spaced in
+    let words : words_after (word ++ numbers_text ns) ≡ words_after (numbers_text ns) = sym (words_after-word (word ++ numbers_text ns)) ∙ ap words_after front.1 in
+    let read : Ok (line_with form (numbers_of (numbers_text ns))) ≡ line_of_words word (words_after (numbers_text ns)) =
+    line-form word (words_after (numbers_text ns)) (length ns) true form (counted (numbers_text ns) (length ns) spelled.0 (ap length spelled.1)) is_form refl in
+    rw (other, front.0, words) (sym read ∙ ap (λ xs. Ok (line_with form xs)) spelled.1)
+
+-- the line of a line's text is the line
+pub line_of-line_text : (l : Line) → IsLine l → line_of (line_text l) ≡ Ok l
+unfolding form_of line_of
+line_of-line_text lines.Header h = refl
+line_of-line_text (lines.Point ns) h = line_from (codes "point") ns forms.Point refl (recursion_from_All IsWithin ns h.within) refl (rw h.count refl)
+line_of-line_text (lines.New ns) h = line_from (codes "new") ns forms.New refl (recursion_from_All IsWithin ns h.within) refl (rw (le-leb 2 (length ns) h.count) refl)
+line_of-line_text (lines.Old ns) h = line_from (codes "old") ns forms.Old refl (recursion_from_All IsWithin ns h.within) refl (rw (le-leb 2 (length ns) h.count) refl)
+line_of-line_text (lines.Pair ns) h = line_from (codes "pair") ns forms.Pair refl (recursion_from_All IsWithin ns h.within) refl (rw h.count refl)
+line_of-line_text (lines.Put ns) h = line_from (codes "put") ns forms.Put refl (recursion_from_All IsWithin ns h.within) refl (rw h.count refl)
+line_of-line_text (lines.Leaf ns) h = line_from (codes "leaf") ns forms.Leaf refl (recursion_from_All IsWithin ns h.within) refl (rw (le-leb 2 (length ns) h.count) refl)
+line_of-line_text lines.Done h = line_from (codes "done") [] forms.Done refl tt refl refl
+line_of-line_text lines.Cut h = line_from (codes "cut") [] forms.Cut refl tt refl refl
+line_of-line_text lines.Open h = line_from (codes "open") [] forms.Open refl tt refl refl
+
+-- the word and the count of a form
+abbrev IsOfForm : Form → List ℕ → ℕ → Type 0
+IsOfForm forms.Point word count = (word ≡ codes "point") × (count ≡ 2)
+IsOfForm forms.New word count = (word ≡ codes "new") × (2 ≤ count)
+IsOfForm forms.Old word count = (word ≡ codes "old") × (2 ≤ count)
+IsOfForm forms.Pair word count = (word ≡ codes "pair") × (count ≡ 2)
+IsOfForm forms.Put word count = (word ≡ codes "put") × (count ≡ 2)
+IsOfForm forms.Leaf word count = (word ≡ codes "leaf") × (2 ≤ count)
+IsOfForm forms.Done word count = (word ≡ codes "done") × (count ≡ 0)
+IsOfForm forms.Cut word count = (word ≡ codes "cut") × (count ≡ 0)
+IsOfForm forms.Open word count = (word ≡ codes "open") × (count ≡ 0)
+
+-- one test of the table: either its form is the answer and it held, or the tests after it decide
+pick : (P : Form → Type 0) (test : Bool) (here form : Form) (others : Option Form) → (test ≡ true → P here) → (others ≡ Some form → P form) → cond test (Some here) others ≡ Some form → P form
+pick P true here form others holds later e = subst P (some_injective here form e) (holds refl)
+pick P false here form others holds later e = later e
+
+exactly : (word name : List ℕ) (count n : ℕ) → (bytes_eq word name && eqb count n) ≡ true → (word ≡ name) × (count ≡ n)
+exactly word name count n h =
+    let parts = both (bytes_eq word name) (eqb count n) h in
+    ((bytes_eq-Decides word name).0 parts.0, eqb-true count n parts.1)
+
+at_least : (word name : List ℕ) (count n : ℕ) → (bytes_eq word name && leb n count) ≡ true → (word ≡ name) × (n ≤ count)
+at_least word name count n h =
+    let parts = both (bytes_eq word name) (leb n count) h in
+    ((bytes_eq-Decides word name).0 parts.0, leb-true n count parts.1)
+
+-- the form of a word and a count has them
+form_is : (word : List ℕ) (count : ℕ) (form : Form) → form_of word count ≡ Some form → IsOfForm form word count
+unfolding form_of
+form_is word count form =
+    let P : Form → Type 0 = λ f. IsOfForm f word count in
+    pick P _ forms.Leaf form _ (at_least word (codes "leaf") count 2)
+    (pick P _ forms.Pair form _ (exactly word (codes "pair") count 2)
+    (pick P _ forms.Put form _ (exactly word (codes "put") count 2)
+    (pick P _ forms.New form _ (at_least word (codes "new") count 2)
+    (pick P _ forms.Old form _ (at_least word (codes "old") count 2)
+    (pick P _ forms.Point form _ (exactly word (codes "point") count 2)
+    (pick P _ forms.Open form _ (exactly word (codes "open") count 0)
+    (pick P _ forms.Done form _ (exactly word (codes "done") count 0)
+    (pick P _ forms.Cut form _ (exactly word (codes "cut") count 0)
+    (λ e. absurd (some_apart form (sym e)))))))))))
+
+-- a word and numbers of a form are the text of the line
+text_of_form : (form : Form) (word : List ℕ) (ns : List ℤ) → IsOfForm form word (length ns) → AllByRecursion IsWithin ns → (word ++ numbers_text ns ≡ line_text (line_with form ns)) × IsLine (line_with form ns)
+text_of_form forms.Point word ns h within = (rw (h.0) refl, record { count = h.1; within = All-from_recursion IsWithin ns within })
+text_of_form forms.New word ns h within = (rw (h.0) refl, record { count = h.1; within = All-from_recursion IsWithin ns within })
+text_of_form forms.Old word ns h within = (rw (h.0) refl, record { count = h.1; within = All-from_recursion IsWithin ns within })
+text_of_form forms.Pair word ns h within = (rw (h.0) refl, record { count = h.1; within = All-from_recursion IsWithin ns within })
+text_of_form forms.Put word ns h within = (rw (h.0) refl, record { count = h.1; within = All-from_recursion IsWithin ns within })
+text_of_form forms.Leaf word ns h within = (rw (h.0) refl, record { count = h.1; within = All-from_recursion IsWithin ns within })
+text_of_form forms.Done word [] h within = (rw (h.0) refl, record { count = tt; within = All-from_recursion IsWithin [] tt })
+text_of_form forms.Done word (n ∷ ns) h within = absurd (omega arith)
+text_of_form forms.Cut word [] h within = (rw (h.0) refl, record { count = tt; within = All-from_recursion IsWithin [] tt })
+text_of_form forms.Cut word (n ∷ ns) h within = absurd (omega arith)
+text_of_form forms.Open word [] h within = (rw (h.0) refl, record { count = tt; within = All-from_recursion IsWithin [] tt })
+text_of_form forms.Open word (n ∷ ns) h within = absurd (omega arith)
+
+option_cases : {X : Type 0} (o : Option X) → ((x : X) × (o ≡ Some x)) ⊎ (o ≡ None)
+option_cases None = inr refl
+option_cases (Some x) = inl (x, refl)
+
+ok_injective : (a b : Line) → (let r : Result Line Spelling = Ok a in r) ≡ Ok b → a ≡ b
+ok_injective a b e = cc
+
+pub ok_apart : (why : Spelling) (b : Line) → Err why ≡ Ok b → ⊥
+ok_apart why b e = cc
+
+-- the words of a line that is read: they are numbers of its form, all in the range
+record IsReadAs (text : List ℕ) (line : Line) : Type 0 where
+  numbers : list_all is_spelled (words_after text) ≡ true
+  form : Form
+  formed : form_of (first_word text) (length (words_after text)) ≡ Some form
+  same : line_with form (numbers_of text) ≡ line
+
+words_read : (text : List ℕ) (line : Line) → line_of_words (first_word text) (words_after text) ≡ Ok line → IsReadAs text line
+words_read text line e =
+    elim (either (list_all is_number (words_after text))) [
+      | inl spelt ↦ elim (option_cases (form_of (first_word text) (length (words_after text)))) [
+        | inl found ↦ elim (either (list_all is_within (words_after text))) [
+          | inl near ↦ record {
+            numbers = all_spelled (words_after text) spelt near;
+            form = found.0;
+            formed = found.1;
+            same = ok_injective _ line (rw (spelt, found.1, near) at e);
+          }
+          | inr far ↦ absurd (ok_apart spellings.Range line (rw (spelt, found.1, far) at e))
+        ]
+        | inr none ↦ absurd (ok_apart spellings.Form line (rw (spelt, none) at e))
+      ]
+      | inr unspelt ↦ absurd (ok_apart spellings.Form line (rw unspelt at e))
+    ]
+
+text_of_read : (text : List ℕ) (line : Line) → IsReadAs text line → (text ≡ line_text line) × IsLine line
+text_of_read text line read =
+    let P : Line → Type 0 = λ l. (text ≡ line_text l) × IsLine l in
+    let words = words_after-word text in
+    let after : AreSpelled (after_word text) = record { spaced = IsSpaced-first text; numbers = rw words read.numbers } in
+    let numbers : numbers_of (after_word text) ≡ numbers_of text = ap (map number_value) words in
+    let count : length (words_after text) ≡ length (numbers_of text) = sym (length-map (words_after text) _) in
+    let whole : first_word text ++ after_word text ≡ text = take-append-drop (position_or_len is_space text) text in
+    let spelled : numbers_text (numbers_of text) ≡ after_word text = ap numbers_text (sym numbers) ∙ numbers_text-spelled (after_word text) after in
+    let formed : IsOfForm read.form (first_word text) (length (words_after text)) = form_is (first_word text) (length (words_after text)) read.form read.formed in
+    let Q : ℕ → Type 0 = λ n. IsOfForm read.form (first_word text) n in
+    let within : AllByRecursion IsWithin (numbers_of text) = rw numbers at (all_within (after_word text) after) in
+    let parts = text_of_form read.form (first_word text) (numbers_of text) (subst Q count formed) within in
+    subst P read.same (sym whole ∙ ap (λ xs. first_word text ++ xs) (sym spelled) ∙ parts.0, parts.1)
+
+-- a text that is read as a line is the line's text
+pub line_text-line_of : (text : List ℕ) (line : Line) → line_of text ≡ Ok line → (text ≡ line_text line) × IsLine line
+unfolding line_of
+line_text-line_of text line e =
+    let P : Line → Type 0 = λ l. (text ≡ line_text l) × IsLine l in
+    elim (either (bytes_eq text (codes "slabfront 1"))) [
+      | inl header ↦
+          let is : lines.Header ≡ line = ok_injective lines.Header line (rw header at e) in
+          subst P is ((bytes_eq-Decides text (codes "slabfront 1")).0 header, record { count = tt; within = All-from_recursion IsWithin [] tt })
+      | inr other ↦ text_of_read text line (words_read text line (rw other at e))
+    ]
+
+-- a line that is read has as many numbers as its form wants, each in the range
+pub line_of_words-good : (text : List ℕ) (read : Result Line Spelling) → read ≡ line_of_words (first_word text) (words_after text) → IfOk read IsLine
+line_of_words-good text (Ok line) e = (text_of_read text line (words_read text line (sym e))).1
+line_of_words-good text (Err why) e = tt
