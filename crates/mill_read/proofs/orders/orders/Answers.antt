@@ -1,0 +1,30 @@
+use Rattle.std.proofs.Common.{◌+◌, ◌-◌, List, sym, ap, ◌∙◌, arith}
+use Rattle.std.proofs.lemmas.Result.{err_from_is_err_and}
+use Rattle.std.proofs.lemmas.Grind.{common_steps, elements}
+use Rattle.mill_read.specs.OrderFile.{order_at}
+use Rattle.mill_read.specs.Reading.{list_at}
+use Rattle.mill_read.proofs.ListLaws.{with_front, list_at_item, list_at_fault, list_at_end}
+use Rattle.mill_read.proofs.orders.orders.Goals as goal
+
+pub returns-in_err-order-clause-given : goal.returns-in_err-order-clause-given
+returns-in_err-order-clause-given c =
+    let p = err_from_is_err_and c.from_residual-in_err-order.result c.from_residual-in_err-order.ensures.1 in
+    rw (p.1, p.2) (sym c.loop.invariant.given ∙ list_at_fault (order_at c.args.colours) (c.args.count - c.loop.counter) (c.args.count - (c.loop.counter + 1)) c.loop.words c.loop.list.items _ (omega arith) c.in_err-order.ensures.given)
+
+pub loop-preserved : goal.loop-preserved
+loop-preserved c =
+    let item = (order_at c.args.colours) in
+    record {
+      given =
+          ap (λ (l : List _). with_front l (list_at item (c.args.count - (c.loop.counter + 1)) c.order.new.words)) c.push_reserved.ensures.items
+          ∙ sym (list_at_item item (c.args.count - c.loop.counter) (c.args.count - (c.loop.counter + 1)) c.loop.words c.order.new.words c.loop.list.items c.in_ok-order.field-0 (omega arith) c.in_ok-order.ensures.given)
+          ∙ c.loop.invariant.given;
+      weights = grind (arith, elements);
+      colours = grind (arith, elements);
+      length = grind (arith, common_steps);
+      room = grind (arith, common_steps);
+      number = grind (arith, common_steps);
+    }
+
+pub returns-clause-given : goal.returns-clause-given
+returns-clause-given c = sym c.loop.invariant.given ∙ list_at_end (order_at c.args.colours) (c.args.count - c.loop.counter) c.loop.words c.loop.list.items (omega arith)

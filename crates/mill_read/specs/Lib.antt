@@ -1,0 +1,9 @@
+pub mod Words
+pub mod Tokens
+pub mod WordsLeft
+pub mod Reading
+pub mod Gives
+pub mod OrderFile
+pub mod YardFile
+pub mod SlabWords
+pub mod PlanFile

@@ -1,0 +1,20 @@
+//! What is read is in the grammar, and what is in the grammar is read. Each law is the contract of a function that does
+//! nothing.
+ghost use Rattle.mill_read.specs.OrderFile.{OrderFilesSpellMills};
+ghost use Rattle.mill_read.specs.YardFile.{YardFilesSpellYards};
+ghost use Rattle.mill_read.specs.PlanFile.{PlanFilesSpellPlans};
+
+/// An order file gives a mill exactly where its words spell the mill's numbers, within their limits.
+pub fn order_files_spell_mills()
+    ensures { OrderFilesSpellMills }
+{}
+
+/// A yard file gives sizes exactly where its words spell them, within their limits.
+pub fn yard_files_spell_yards()
+    ensures { YardFilesSpellYards }
+{}
+
+/// A plan file gives a plan exactly where its words spell it, with a place for each order, and its numbers are in range.
+pub fn plan_files_spell_plans()
+    ensures { PlanFilesSpellPlans }
+{}

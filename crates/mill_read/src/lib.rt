@@ -1,0 +1,22 @@
+//! Readers of the files that describe a mill: its orders, its yard, and a plan. Each gives exactly what its grammar gives,
+//! or the first word that can't stand.
+//!
+//! A file is a list of words, parted by white space (the bytes 9 to 13 and 32). A number is a word of ASCII digits, in which
+//! leading zeros may stand.
+#![tactic(auto)]
+
+mod fault;
+mod laws;
+mod lists;
+mod orders;
+mod plans;
+#[cfg(test)]
+mod tests;
+mod words;
+mod yards;
+
+pub use fault::{TextError, TextFault, Why};
+pub use laws::{order_files_spell_mills, plan_files_spell_plans, yard_files_spell_yards};
+pub use orders::read_orders;
+pub use plans::read_plan;
+pub use yards::read_yard;
