@@ -1,0 +1,5 @@
+pub mod Steps
+pub mod Files
+pub mod Pieces
+pub mod ByName
+pub mod States

@@ -1,0 +1,18 @@
+//! The outside as the product sees it: files by name, standard output, and a count of faults.
+#![tactic(auto)]
+
+mod calls;
+mod desk;
+mod mem_desk;
+mod mem_file;
+mod real_desk;
+mod reserved;
+#[cfg(test)]
+mod tests;
+mod whole;
+
+pub use calls::Act;
+pub use desk::{Desk, Failed};
+pub use mem_desk::MemDesk;
+pub use real_desk::RealDesk;
+pub use whole::{ReadFail, read_all, say_all, write_all};

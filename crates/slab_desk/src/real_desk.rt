@@ -1,0 +1,128 @@
+// Files and standard output as the system has them.
+ghost use Rattle.std.specs.Prelude.{◌≡◌, None};
+
+use crate::desk::fault;
+use crate::{Desk, Failed};
+use std::fs;
+use std::io::{self, Read, Write};
+use std::marker::Model;
+use std::rt::Files;
+
+/// A thin adapter over the files and the standard output of a runtime. It tells nothing but its faults.
+#[derive(Drop)]
+pub struct RealDesk<R: Files + Print + Drop> {
+    rt: R,
+    opened: Option<R::File>,
+    target: Option<R::File>,
+    faults: u64,
+}
+
+impl<R: Files + Print + Drop> Model for RealDesk<R> {
+    ghost use Rattle.std.specs.Prelude.{ℕ};
+
+    ghost Value = { ℕ };
+
+    ghost view = { λ desk. desk.faults };
+}
+
+impl<R: Files + Print + Drop> RealDesk<R> {
+    /// A desk with no file opened or created, and no fault yet.
+    pub fn new(rt: R) -> Self
+        ensures { result ≡ 0 }
+    {
+        RealDesk {
+            rt,
+            opened: None,
+            target: None,
+            faults: 0,
+        }
+    }
+}
+
+impl<R: Files + Print + Drop> Desk for RealDesk<R> {
+    ghost told = { λ _. None };
+
+    ghost faults = { λ faults. faults };
+
+    fn open_file(&mut self, name: &str) -> Result<(), Failed> {
+        match fs::open(&self.rt, name) {
+            Ok(file) => {
+                self.opened = Some(file);
+                Ok(())
+            }
+            Err(_) => Err(fault(&mut self.faults)),
+        }
+    }
+
+    fn read(&mut self, buf: &mut [u8]) -> Result<usize, Failed> {
+        let Some(file) = &mut self.opened else {
+            return Ok(0);
+        };
+        match file.read(buf) {
+            Ok(count) => Ok(count),
+            Err(_) => Err(fault(&mut self.faults)),
+        }
+    }
+
+    fn create_file(&mut self, name: &str) -> Result<(), Failed> {
+        match fs::create(&self.rt, name) {
+            Ok(file) => {
+                self.target = Some(file);
+                Ok(())
+            }
+            Err(_) => Err(fault(&mut self.faults)),
+        }
+    }
+
+    fn write(&mut self, bytes: &[u8]) -> Result<usize, Failed> {
+        if let Some(file) = &mut self.target {
+            match file.write(bytes) {
+                Ok(count) if count > 0 || bytes.is_empty() => return Ok(count),
+                _ => {}
+            }
+        }
+        Err(fault(&mut self.faults))
+    }
+
+    fn say(&mut self, bytes: &[u8]) -> Result<usize, Failed> {
+        let mut out = io::writer(&self.rt);
+        match out.write(bytes) {
+            Ok(count) if count > 0 || bytes.is_empty() => match out.flush() {
+                Ok(()) => return Ok(count),
+                Err(_) => {}
+            },
+            _ => {}
+        }
+        Err(fault(&mut self.faults))
+    }
+}
+
+#[cfg(test)]
+mod tests {
+    use super::*;
+    use crate::{ReadFail, read_all, say_all, write_all};
+    use std::test::Fail;
+
+    const NAME: &str = "slab_desk_round_trip";
+
+    #[test]
+    fn a_file_goes_out_and_comes_back(rt: HostRuntime) -> Result<(), Fail> {
+        let alloc = rt.alloc();
+        let mut desk = RealDesk::new(&rt);
+        assert!(rt; desk.open_file("slab_desk_no_such_file").is_err());
+        assert!(rt; desk.write(b"1").is_err(), "nothing was created");
+        assert_eq!(rt; desk.faults, 2);
+
+        desk.create_file(NAME)?;
+        write_all(&mut desk, b"1 10\n")?;
+        let bytes = read_all(alloc, &mut desk, NAME, 5)?;
+        assert_eq!(rt; bytes.as_slice(), b"1 10\n".as_slice());
+        let long = read_all(alloc, &mut desk, NAME, 4);
+        assert!(rt; matches!(long, Err(ReadFail::Long)));
+        fs::remove_file(&rt, NAME)?;
+
+        say_all(&mut desk, b"1 10\n")?;
+        assert_eq!(rt; desk.faults, 2);
+        Ok(())
+    }
+}
