@@ -1,0 +1,4 @@
+pub mod Columns
+pub mod PivotCounts
+pub mod Products
+pub mod Ratios

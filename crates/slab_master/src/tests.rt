@@ -1,0 +1,156 @@
+ghost use Rattle.std.specs.Prelude.{ℕ, ◌≡◌, ◌^◌, ◌<◌, ◌≤◌, unsigned_abs, All, IsTrue, length, IfOk};
+ghost use Rattle.slab_master.specs.Given.{AreRows, IsColumn, IsSmall};
+
+use crate::{Master, Outcome, Sense, Stalls};
+use slab_frac::{Frac, Wides};
+use std::alloc::Global;
+use std::test::Fail;
+
+/// The largest absolute value of a right side or an entry.
+const SMALL: u64 = 0x100_0000_0000;
+
+fn are_rows(rows: &[(Sense, i64)]) -> bool
+    ensures { IsTrue result → AreRows rows.now }
+{
+    rows.iter().all(|row| row.1.unsigned_abs() <= SMALL)
+}
+
+fn are_within(entries: &[(u16, i64)], count: usize) -> bool
+    ensures { IsTrue result → All (λ e. e.0 < count) entries.now }
+{
+    entries.iter().all(|entry| (entry.0 as usize) < count)
+}
+
+fn are_small(entries: &[(u16, i64)]) -> bool
+    ensures { IsTrue result → All (λ e. IsSmall e.1) entries.now }
+{
+    entries.iter().all(|entry| entry.1.unsigned_abs() <= SMALL)
+}
+
+fn is_column(entries: &[(u16, i64)], count: usize) -> bool
+    ensures { IsTrue result → IsColumn count entries.now }
+{
+    if !are_within(entries, count) {
+        return false;
+    }
+    are_small(entries)
+}
+
+// A master of these rows and columns.
+fn master_of(
+    alloc: Global,
+    rows: &[(Sense, i64)],
+    columns: &[&[(u16, i64)]],
+) -> Result<Master, Fail>
+    ensures { IfOk result (λ m. m.rows ≡ rows.now) }
+{
+    if !are_rows(rows) {
+        return Err(Fail::from("rows"));
+    }
+    let mut master = Master::new(alloc, rows)?;
+    for column in columns {
+        if !is_column(column, rows.len()) {
+            return Err(Fail::from("column"));
+        }
+        master.add_column(alloc, column)?;
+    }
+    Ok(master)
+}
+
+// Whether the outcome is a spread of these fractions.
+fn is_spread(outcome: &Outcome, expected: &[(i64, i64)]) -> bool {
+    match outcome {
+        Outcome::Spread(spread) => {
+            let list = spread.list();
+            list.len() == expected.len()
+                && list
+                    .iter()
+                    .zip(expected)
+                    .all(|(x, y)| x.num() == y.0 && x.den() == y.1)
+        }
+        _ => false,
+    }
+}
+
+fn is_prices(outcome: &Outcome) -> bool {
+    match outcome {
+        Outcome::Prices(_) => true,
+        _ => false,
+    }
+}
+
+#[test]
+fn two_orders_on_one_slab(rt: HostRuntime) -> Result<(), Fail> {
+    let rows = [(Sense::Equal, 1), (Sense::Equal, 1), (Sense::AtMost, 1)];
+    let mut master = master_of(rt.alloc(), &rows, &[&[(0, 1), (2, 1)], &[(1, 1), (2, 1)]])?;
+    let mut wides = Wides::new();
+    let mut stalls = Stalls::new();
+    let outcome = master.solve(rt.alloc(), &mut wides, &mut stalls)?;
+    assert!(rt; is_prices(&outcome));
+    for cell in master.row_mut(1).iter_mut() {
+        *cell = Frac::whole(7);
+    }
+    let both = [(0, 1), (1, 1), (2, 1)];
+    assert!(rt; is_column(&both, 3));
+    master.add_column(rt.alloc(), &both)?;
+    let outcome = master.solve(rt.alloc(), &mut wides, &mut stalls)?;
+    assert!(rt; is_spread(&outcome, &[(0, 1), (0, 1), (1, 1)]));
+    assert_eq!(rt; wides.count(), 0);
+    assert_eq!(rt; stalls.count(), 0);
+    assert!(rt; stalls.pivots() > 0);
+    Ok(())
+}
+
+// The only spread of the rows over the columns, or none where prices refute them.
+fn holds(
+    alloc: Global,
+    rows: &[(Sense, i64)],
+    columns: &[&[(u16, i64)]],
+    expected: Option<&[(i64, i64)]>,
+) -> Result<bool, Fail> {
+    let mut master = master_of(alloc, rows, columns)?;
+    let mut stalls = Stalls::new();
+    let outcome = master.solve(alloc, &mut Wides::new(), &mut stalls)?;
+    Ok(
+        stalls.count() == 0
+            && match expected {
+                Some(spread) => is_spread(&outcome, spread),
+                None => is_prices(&outcome),
+            },
+    )
+}
+
+#[test]
+fn meets_two_lines(rt: HostRuntime) -> Result<(), Fail> {
+    // 2x + 3y = 1 and 4x - y = 1.
+    let rows = [(Sense::Equal, 1), (Sense::Equal, 1)];
+    let columns: [&[(u16, i64)]; 2] = [&[(0, 2), (1, 4)], &[(0, 3), (1, -1)]];
+    assert!(rt; holds(rt.alloc(), &rows, &columns, Some(&[(2, 7), (1, 7)]))?);
+    Ok(())
+}
+
+#[test]
+fn meets_a_negative_right_side(rt: HostRuntime) -> Result<(), Fail> {
+    // x at least 2 and at most 3, with 2x = 5.
+    let rows = [(Sense::AtMost, -2), (Sense::AtMost, 3), (Sense::Equal, -5)];
+    let columns: [&[(u16, i64)]; 1] = [&[(0, -1), (1, 1), (2, -2)]];
+    assert!(rt; holds(rt.alloc(), &rows, &columns, Some(&[(5, 2)]))?);
+    Ok(())
+}
+
+#[test]
+fn refutes_bounds_that_are_apart(rt: HostRuntime) -> Result<(), Fail> {
+    // x at least 2 and at most 1.
+    let rows = [(Sense::AtMost, -2), (Sense::AtMost, 1)];
+    let columns: [&[(u16, i64)]; 1] = [&[(0, -1), (1, 1)]];
+    assert!(rt; holds(rt.alloc(), &rows, &columns, None)?);
+    Ok(())
+}
+
+#[test]
+fn covers_three_orders_by_halves(rt: HostRuntime) -> Result<(), Fail> {
+    let rows = [(Sense::Equal, 1), (Sense::Equal, 1), (Sense::Equal, 1)];
+    let pairs: [&[(u16, i64)]; 3] = [&[(0, 1), (1, 1)], &[(1, 1), (2, 1)], &[(0, 1), (2, 1)]];
+    assert!(rt; holds(rt.alloc(), &rows, &pairs, Some(&[(1, 2), (1, 2), (1, 2)]))?);
+    Ok(())
+}
