@@ -92,23 +92,62 @@ pub(crate) fn subtract_multiple(
     true
 }
 
-/// Writes a given column into the working rows.
-fn put_column(working: &mut [Vec<Frac>], rows: &[(Sense, i64)], column: &[(u16, i64)], place: usize)
+/// Adds to a cell, if it is there. False comes only where a fraction left its range.
+fn add_to(rows: &mut [Vec<Frac>], row: usize, place: usize, part: &Frac, wides: &mut Wides) -> bool
+    ensures grows { wides.old ≤ wides.new }
+    ensures wide { OnFalse result (Rose wides.old wides.new) }
+{
+    if row < rows.len() {
+        let cells = &mut rows[row];
+        if place < cells.len() {
+            let Some(sum) = cells[place].add(part, wides) else {
+                return false;
+            };
+            cells[place] = sum;
+        }
+    }
+    true
+}
+
+/// Adds a given column to the working rows, where a row that is named twice has the sum of its entries. False comes only
+/// where a fraction left its range.
+fn put_column(
+    working: &mut [Vec<Frac>],
+    rows: &[(Sense, i64)],
+    column: &[(u16, i64)],
+    place: usize,
+    wides: &mut Wides,
+) -> bool
     requires { IsColumn (length rows.now) column.now }
+    ensures grows { wides.old ≤ wides.new }
+    ensures wide { OnFalse result (Rose wides.old wides.new) }
 {
     for (row, entry) in column {
         let i = *row as usize;
-        put(working, i, place, turned(*entry, rows[i].1 < 0));
+        if !add_to(working, i, place, &turned(*entry, rows[i].1 < 0), wides) {
+            return false;
+        }
     }
+    true
 }
 
-/// Writes the given columns into the working rows.
-fn put_columns(working: &mut [Vec<Frac>], rows: &[(Sense, i64)], columns: &[Vec<(u16, i64)>])
+/// Adds the given columns to the working rows. False comes only where a fraction left its range.
+fn put_columns(
+    working: &mut [Vec<Frac>],
+    rows: &[(Sense, i64)],
+    columns: &[Vec<(u16, i64)>],
+    wides: &mut Wides,
+) -> bool
     requires { All (λ c. IsColumn (length rows.now) c.items) columns.now }
+    ensures grows { wides.old ≤ wides.new }
+    ensures wide { OnFalse result (Rose wides.old wides.new) }
 {
     for (j, column) in columns.iter().enumerate() {
-        put_column(working, rows, column.as_slice(), j);
+        if !put_column(working, rows, column.as_slice(), j, wides) {
+            return false;
+        }
     }
+    true
 }
 
 /// Writes zeros into each working row, so many.
@@ -231,7 +270,9 @@ impl Tableau {
         self.costs.clear();
         self.costs.resize(width, Frac::whole(0))?;
         clear_rows(&mut self.rows, width)?;
-        put_columns(&mut self.rows, rows, columns);
+        if !put_columns(&mut self.rows, rows, columns, wides) {
+            return Ok(false);
+        }
         put_units(
             &mut self.rows,
             &mut self.basis,

@@ -154,3 +154,11 @@ fn covers_three_orders_by_halves(rt: HostRuntime) -> Result<(), Fail> {
     assert!(rt; holds(rt.alloc(), &rows, &pairs, Some(&[(1, 2), (1, 2), (1, 2)]))?);
     Ok(())
 }
+
+#[test]
+fn sums_entries_of_one_row(rt: HostRuntime) -> Result<(), Fail> {
+    let rows = [(Sense::Equal, 6)];
+    let columns: [&[(u16, i64)]; 1] = [&[(0, 1), (0, 2)]];
+    assert!(rt; holds(rt.alloc(), &rows, &columns, Some(&[(2, 1)]))?);
+    Ok(())
+}

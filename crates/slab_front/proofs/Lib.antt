@@ -1,0 +1,4 @@
+pub mod Reports
+pub mod Telling
+pub mod Owing
+pub mod Ends

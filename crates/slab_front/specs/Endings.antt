@@ -1,0 +1,65 @@
+-- What the parts of a run answer.
+use Rattle.std.specs.Prelude.{◌≡◌, ◌≢◌, ◌⊎◌, ℕ, ◌≤◌, List, length, ⊤, Option, Some, None, Result, Ok, Err}
+use Rattle.std.specs.String.{string_bytes}
+use Rattle.std.specs.FinMap.{get}
+use Rattle.slab_counter.specs.Counter.{Rose}
+use Rattle.slab_desk.specs.Desk.{Told, Files, Steps, WhereTold, HasLongFile, Says, WithPrefix}
+use Rattle.mill_model.specs.Mill.{Mill}
+use Rattle.mill_read.specs.declared.fault.TextFault.{TextFault}
+use Rattle.mill_read.specs.declared.fault.TextError.{TextError}
+use Rattle.mill_read.specs.declared.fault.TextError.TheVariants.{Text}
+use Rattle.mill_read.specs.OrderFile.{order_file}
+use Rattle.mill_read.specs.YardFile.{yard_file}
+use Rattle.slab_front.specs.declared.ending.Ending.{Ending}
+use Rattle.slab_front.specs.declared.ending.Stop.{Stop}
+use Rattle.slab_front.specs.declared.ending.Stop.TheVariants.{Refused, Fault, Memory}
+use Rattle.slab_front.specs.Words.{Command, Parsed}
+use Rattle.slab_front.specs.declared.texts.Source.{Source}
+use Rattle.slab_front.specs.Texts.{long_text, fault_text}
+use Rattle.slab_front.specs.Owed.{Owing, MayEnd}
+
+-- the file is there, isn't too long, and has this value
+abbrev pub HasValue : {A : Type 0} → (List ℕ → Result A TextFault) → List ℕ → A → Files → Type 0
+HasValue reading name value files = (bytes : List ℕ) × (get files name ≡ Some bytes) × (length bytes ≤ 1048576) × (reading bytes ≡ Ok value)
+
+abbrev pub HasYard : Option (List ℕ) → Mill → Mill → Files → Type 0
+HasYard None bare mill files = mill ≡ bare
+HasYard (Some name) bare mill files = (yard : List ℕ) × HasValue yard_file name yard files × (mill ≡ record bare { yard = yard })
+
+-- the mill of the order file, with the yard of the yard file
+abbrev pub HasMill : List ℕ → Option (List ℕ) → Mill → Files → Type 0
+HasMill orders yard mill files = (bare : Mill) × HasValue order_file orders bare files × HasYard yard bare mill files
+
+-- a refusal's text is owed with status 2, and a fault has its cause
+abbrev pub IsStop : (Files → Owing) → Option Told → ℕ → ℕ → Stop → Type 0
+IsStop owes told before now (Refused text) = WhereTold told (λ t. owes t.files 2 (string_bytes text))
+IsStop owes told before now Fault = Rose before now
+IsStop owes told before now Memory = ⊤
+
+abbrev pub IsEnding : (Files → Owing) → Option Told → Ending → Type 0
+IsEnding owes told ending = WhereTold told (λ t. owes t.files ending.status (string_bytes ending.text))
+
+-- the status that the answer leads to is one of these words
+abbrev pub MayAnswer : Parsed Command → Result Ending Stop → Type 0
+MayAnswer parsed (Ok ending) = MayEnd parsed ending.status
+MayAnswer parsed (Err (Refused text)) = MayEnd parsed 2
+MayAnswer parsed (Err Fault) = ⊤
+MayAnswer parsed (Err Memory) = ⊤
+
+-- the text was said, and the answer is its status, or a front of it where the outside failed
+pub record Finishes (code : ℕ) (text : List ℕ) (old new : Option Told) (result : ℕ) : Type 0 where
+  pub status : (result ≡ code) ⊎ (result ≡ 5)
+  pub said : result ≢ 5 → Steps old new (Says text)
+  pub short : result ≡ 5 → Steps old new (WithPrefix Says text)
+
+-- the file is too long
+abbrev pub IsTooLong : Source → List ℕ → Option Told → ℕ → ℕ → Stop → Type 0
+IsTooLong source name told before now (Refused text) = (string_bytes text ≡ long_text source) × WhereTold told (HasLongFile name 1048576)
+IsTooLong source name told before now Fault = Rose before now
+IsTooLong source name told before now Memory = ⊤
+
+-- what reading a text answered
+abbrev pub IsRefusal : Source → TextError → Stop → Type 0
+IsRefusal source error (Refused text) = (fault : TextFault) × (error ≡ Text fault) × (string_bytes text ≡ fault_text source fault)
+IsRefusal source error Fault = ⊥
+IsRefusal source error Memory = ⊤

@@ -1,0 +1,68 @@
+-- What is said. Each text is lines, each ended by a line feed; orders, slabs and words are numbered from 1.
+use Rattle.std.specs.Prelude.{◌≡◌, ℕ, ◌+◌, List, [], ◌∷◌, ◌++◌, codes}
+use Rattle.std.specs.Fmt.{decimal}
+use Rattle.mill_model.specs.declared.sums.Sums.{Sums}
+use Rattle.mill_model.specs.declared.illegal.Illegal.{Illegal}
+use Rattle.mill_model.specs.declared.illegal.Illegal.TheVariants.{Places, Place, Empty, Size, Yard, Twice, Load, Colours}
+use Rattle.mill_read.specs.declared.fault.TextFault.{TextFault}
+use Rattle.mill_read.specs.declared.fault.Why.{Why}
+use Rattle.mill_read.specs.declared.fault.Why.TheVariants.{Missing, NotNumber, Range, Colour, Kind, Extra}
+use Rattle.slab_front.specs.declared.texts.Source.{Source}
+use Rattle.slab_front.specs.declared.texts.Source.TheVariants.{Orders, Yard as YardSource, Plan as PlanSource}
+
+-- words with a space before each, and a line feed
+abbrev pub spaced : List (List ℕ) → List ℕ
+spaced [] = 10 ∷ []
+spaced (word ∷ words) = 32 ∷ (word ++ spaced words)
+
+-- a line of one word and others
+abbrev pub line : List ℕ → List (List ℕ) → List ℕ
+line word words = word ++ spaced words
+
+abbrev pub memory_text : List ℕ
+memory_text = line (codes "memory") []
+
+abbrev pub not_built_text : List ℕ
+not_built_text = line (codes "notbuilt") []
+
+-- the word that can't stand
+abbrev pub usage_text : ℕ → List ℕ
+usage_text number = line (codes "usage") (codes "word" ∷ decimal number ∷ [])
+
+abbrev pub source_word : Source → List ℕ
+source_word Orders = codes "orders"
+source_word YardSource = codes "yard"
+source_word PlanSource = codes "plan"
+
+abbrev pub why_word : Why → List ℕ
+why_word Missing = codes "missing"
+why_word NotNumber = codes "number"
+why_word Range = codes "range"
+why_word Colour = codes "colour"
+why_word Kind = codes "kind"
+why_word Extra = codes "extra"
+
+-- the first fault of a file
+abbrev pub fault_text : Source → TextFault → List ℕ
+fault_text source fault = line (codes "input") (source_word source ∷ codes "word" ∷ decimal fault.word ∷ why_word fault.why ∷ [])
+
+-- a file that is too long
+abbrev pub long_text : Source → List ℕ
+long_text source = line (codes "input") (source_word source ∷ codes "long" ∷ [])
+
+abbrev pub legal_text : Sums → List ℕ
+legal_text sums = line (codes "legal") (decimal sums.loss ∷ decimal sums.count ∷ [])
+
+abbrev pub slab_text : ℕ → List ℕ → List ℕ
+slab_text slab rule = line (codes "illegal") (codes "slab" ∷ decimal (slab + 1) ∷ rule ∷ [])
+
+-- the text says that the plan breaks this rule; none says that there isn't one place for each order
+abbrev pub SaysBroken : Illegal → List ℕ → Type 0
+SaysBroken Places text = ⊥
+SaysBroken (Place order) text = text ≡ line (codes "illegal") (codes "order" ∷ decimal (order + 1) ∷ codes "place" ∷ [])
+SaysBroken (Empty slab) text = text ≡ slab_text slab (codes "empty")
+SaysBroken (Size slab) text = text ≡ slab_text slab (codes "size")
+SaysBroken (Yard slab) text = text ≡ slab_text slab (codes "yard")
+SaysBroken (Twice slab) text = text ≡ slab_text slab (codes "twice")
+SaysBroken (Load slab) text = text ≡ slab_text slab (codes "load")
+SaysBroken (Colours slab) text = text ≡ slab_text slab (codes "colours")

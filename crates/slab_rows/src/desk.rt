@@ -1,0 +1,104 @@
+// A desk with three files, and a run over it.
+use slab_desk::{Act, MemDesk};
+use slab_front::run;
+use std::alloc::{AllocError, Global};
+use std::process::Abort;
+use std::test::Fail;
+
+/// The bytes of the files `orders`, `plan` and `yard`.
+#[derive(Clone, Copy)]
+pub struct Files<'a> {
+    pub orders: &'a [u8],
+    pub plan: &'a str,
+    pub yard: &'a str,
+}
+
+impl Files<'_> {
+    fn desk(
+        &self,
+        rt: &impl Abort,
+        alloc: Global,
+        failing: Vec<(Act, u32)>,
+    ) -> Result<MemDesk, AllocError> {
+        let room = 1048577;
+        assert!(rt; self.orders.len() <= room);
+        assert!(rt; self.plan.len() <= room);
+        assert!(rt; self.yard.len() <= room);
+        let mut files = Vec::new(alloc);
+        files.push((
+            String::from_str(alloc, "orders")?,
+            self.orders.to_vec(alloc)?,
+        ))?;
+        files.push((
+            String::from_str(alloc, "plan")?,
+            self.plan.as_bytes().to_vec(alloc)?,
+        ))?;
+        files.push((
+            String::from_str(alloc, "yard")?,
+            self.yard.as_bytes().to_vec(alloc)?,
+        ))?;
+        MemDesk::new(alloc, files, 3, failing, room)
+    }
+
+    /// The run of these words answers this status and says this text.
+    pub fn answer(
+        &self,
+        rt: &impl Abort,
+        alloc: Global,
+        words: &str,
+        status: u8,
+        said: &str,
+    ) -> Result<(), Fail> {
+        let mut desk = self.desk(rt, alloc, Vec::new(alloc))?;
+        let answered = run(alloc, &split(alloc, words)?, &mut desk);
+        assert_eq!(rt; desk.said(), said.as_bytes(), "{words}");
+        assert_eq!(rt; answered, status, "{words}");
+        assert_eq!(rt; desk.faults(), 0, "{words}");
+        Ok(())
+    }
+
+    /// The run of these words answers 0, and what it says begins with this.
+    pub fn begin(
+        &self,
+        rt: &impl Abort,
+        alloc: Global,
+        words: &str,
+        said: &str,
+    ) -> Result<(), Fail> {
+        let mut desk = self.desk(rt, alloc, Vec::new(alloc))?;
+        let answered = run(alloc, &split(alloc, words)?, &mut desk);
+        assert!(rt; desk.said().starts_with(said.as_bytes()), "{words}");
+        assert_eq!(rt; answered, 0, "{words}");
+        Ok(())
+    }
+
+    /// The run of these words, where this call fails, answers 5 and says this front of a text.
+    pub fn fail(
+        &self,
+        rt: &impl Abort,
+        alloc: Global,
+        words: &str,
+        failing: (Act, u32),
+        said: &str,
+    ) -> Result<(), Fail> {
+        let mut desk = self.desk(rt, alloc, vec![in alloc; failing]?)?;
+        let answered = run(alloc, &split(alloc, words)?, &mut desk);
+        assert_eq!(rt; desk.said(), said.as_bytes(), "{words}");
+        assert_eq!(rt; answered, 5, "{words}");
+        assert_eq!(rt; desk.faults(), 1, "{words}");
+        assert!(rt; desk.file("none").is_none());
+        Ok(())
+    }
+}
+
+/// The words between single spaces.
+fn split(alloc: Global, text: &str) -> Result<Vec<String>, AllocError> {
+    let mut words = Vec::new(alloc);
+    if text.is_empty() {
+        return Ok(words);
+    }
+    for word in text.split(' ') {
+        words.push(String::from_str(alloc, word)?)?;
+    }
+    Ok(words)
+}

@@ -1,0 +1,114 @@
+use crate::desk::Files;
+use std::test::Fail;
+
+#[test]
+fn a_mill_has_its_front(rt: HostRuntime) -> Result<(), Fail> {
+    for (orders, status, said) in [
+        (
+            "1 10 1 2 5 1 5 1",
+            0,
+            "front 1\npoint 0 1\nnew 10 1 2\ncomplete\n",
+        ),
+        ("1 10 1 0", 0, "front 1\npoint 0 0\ncomplete\n"),
+        (
+            "2 4 10 1 2 4 1 4 1",
+            0,
+            "front 2\npoint 0 2\nnew 4 1\nnew 4 2\npoint 2 1\nnew 10 1 2\ncomplete\n",
+        ),
+        ("1 4 1 1 5 1", 4, "front 0\nnoplan\n"),
+        ("1 10 1 6 5 1 5 1 5 1 5 1 5 1 5 1", 9, "notbuilt\n"),
+        (
+            "1 10 1 5 2 1 2 1 2 1 2 1 2 1",
+            0,
+            "front 1\npoint 0 1\nnew 10 1 2 3 4 5\ncomplete\n",
+        ),
+        (
+            "\t1\r\n10 1\n2 005 1 5\x0b1\r\n",
+            0,
+            "front 1\npoint 0 1\nnew 10 1 2\ncomplete\n",
+        ),
+    ] {
+        let files = Files {
+            orders: orders.as_bytes(),
+            plan: "",
+            yard: "",
+        };
+        files.answer(&rt, rt.alloc(), "solve orders", status, said)?;
+    }
+    Ok(())
+}
+
+#[test]
+fn an_order_file_has_a_first_fault(rt: HostRuntime) -> Result<(), Fail> {
+    for (orders, said) in [
+        (b"1 10 1 1 5 2".as_slice(), "input orders word 6 colour\n"),
+        (b"1 10 1 1 5".as_slice(), "input orders word 6 missing\n"),
+        (b"1 10 1 1 5 1 7".as_slice(), "input orders word 7 extra\n"),
+        (b"1 10001 1 1 5 1".as_slice(), "input orders word 2 range\n"),
+        (b"1 10 1 x 5 1".as_slice(), "input orders word 4 number\n"),
+        (b"\xff\xfe".as_slice(), "input orders word 1 number\n"),
+        (b"".as_slice(), "input orders word 1 missing\n"),
+    ] {
+        let files = Files {
+            orders,
+            plan: "",
+            yard: "",
+        };
+        files.answer(&rt, rt.alloc(), "solve orders", 2, said)?;
+    }
+    Ok(())
+}
+
+#[test]
+fn three_colours_share_no_slab(rt: HostRuntime) -> Result<(), Fail> {
+    let files = Files {
+        orders: b"1 9 3 3 3 1 3 2 3 3".as_slice(),
+        plan: "",
+        yard: "",
+    };
+    files.begin(
+        &rt,
+        rt.alloc(),
+        "solve orders",
+        "front 1\npoint 9 2\nnew 9 ",
+    )
+}
+
+#[test]
+fn numbers_may_be_long(rt: HostRuntime) -> Result<(), Fail> {
+    let alloc = rt.alloc();
+    for (digit, last, status, said) in [
+        (b'9', b'9', 2, "input orders word 5 range\n"),
+        (b'0', b'5', 0, "front 1\npoint 5 1\nnew 10 1\ncomplete\n"),
+    ] {
+        let mut orders = b"1 10 1 1 ".to_vec(alloc)?;
+        orders.extend_from_slice(&vec![in alloc; digit; 399]?)?;
+        orders.push(last)?;
+        orders.extend_from_slice(b" 1")?;
+        let files = Files {
+            orders: &orders,
+            plan: "",
+            yard: "",
+        };
+        files.answer(&rt, alloc, "solve orders", status, said)?;
+    }
+    Ok(())
+}
+
+#[test]
+fn a_file_may_be_too_long(rt: HostRuntime) -> Result<(), Fail> {
+    let alloc = rt.alloc();
+    for (count, said) in [
+        (1048576, "input orders word 1 missing\n"),
+        (1048577, "input orders long\n"),
+    ] {
+        let orders = vec![in alloc; b' '; count]?;
+        let files = Files {
+            orders: &orders,
+            plan: "",
+            yard: "",
+        };
+        files.answer(&rt, alloc, "solve orders", 2, said)?;
+    }
+    Ok(())
+}
