@@ -11,7 +11,8 @@ use Rattle.mill_model.proofs.Gap.{same_sums}
 use Rattle.mill_model.proofs.Judging.{once_from_pairs}
 use Rattle.mill_model.proofs.LeastSizes.{IsNoLarger, resized_loss}
 use Rattle.exhaustive_front.specs.Placements.{AreNumbered, Holds, IsLeastSize, AreLeast}
-use Rattle.exhaustive_front.specs.Points.{IsPoint, IsAtMost}
+use Rattle.mill_model.specs.Fronts.{IsPoint}
+use Rattle.exhaustive_front.specs.Points.{IsAtMost}
 use Rattle.exhaustive_front.proofs.Numbered.{has_there, some_places, known_below, slabs_are_used}
 
 all_counted : {X : Type 0} (test : X → Bool) (xs : List X) (d : X) → ((k : ℕ) → k < length xs → test (get_or xs k d) ≡ true) → count_by test xs ≡ length xs

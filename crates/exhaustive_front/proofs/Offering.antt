@@ -6,10 +6,10 @@ use Rattle.std.proofs.lemmas.Bool.{leb-true, le-leb, ltb-true, ltb-false, cases_
 use Rattle.mill_model.specs.declared.sums.Sums.{Sums}
 use Rattle.mill_model.specs.Mill.{Mill}
 use Rattle.mill_model.specs.Plans.{Plan}
-use Rattle.mill_model.specs.Fronts.{LossesRise}
+use Rattle.mill_model.specs.Fronts.{LossesRise, IsPoint, pairs_of}
 use Rattle.mill_model.proofs.Gap.{Contains-here, Contains-later, Contains-cases}
-use Rattle.mill_model.proofs.Staircase.{CountsFall}
-use Rattle.exhaustive_front.specs.Points.{IsPoint, pairs_of, IsStaircase, IsCovered, KeepsCovered, IsAtMost, is_at_most}
+use Rattle.mill_model.specs.Fronts.{CountsFall}
+use Rattle.exhaustive_front.specs.Points.{IsStaircase, IsCovered, KeepsCovered, IsAtMost, is_at_most}
 
 abbrev pub Point : Type 0
 Point = Sums × Plan

@@ -4,10 +4,10 @@ use Rattle.std.proofs.lemmas.List.Elements.{All-head, All-tail, All-nil}
 use Rattle.mill_model.specs.declared.sums.Sums.{Sums}
 use Rattle.mill_model.specs.Mill.{Mill}
 use Rattle.mill_model.specs.Plans.{Plan, IsLegal, IsInOrder, IsAttained, sums_of}
-use Rattle.mill_model.specs.Fronts.{IsFront}
+use Rattle.mill_model.specs.Fronts.{IsFront, IsPoint, pairs_of}
 use Rattle.mill_model.proofs.Gap.{Contains-cases}
 use Rattle.mill_model.proofs.Staircase.{front_by_cover}
-use Rattle.exhaustive_front.specs.Points.{IsPoint, pairs_of, IsStaircase, IsCovered}
+use Rattle.exhaustive_front.specs.Points.{IsStaircase, IsCovered}
 use Rattle.exhaustive_front.proofs.Renumbering.{in_order}
 
 pub stairs_none : (m : Mill) → IsStaircase m []

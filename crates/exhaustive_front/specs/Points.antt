@@ -3,18 +3,7 @@ use Rattle.std.specs.Prelude.{◌≡◌, ◌≤◌, Bool, ◌&&◌, nat_le, List
 use Rattle.mill_model.specs.declared.sums.Sums.{Sums}
 use Rattle.mill_model.specs.Mill.{Mill}
 use Rattle.mill_model.specs.Plans.{Plan, IsLegal, IsInOrder, sums_of}
-use Rattle.mill_model.specs.Fronts.{LossesRise}
-use Rattle.mill_model.proofs.Staircase.{CountsFall, Covers}
-
--- the plan is legal, numbers its slabs by their least order, and has the point's sums
-pub record IsPoint (m : Mill) (point : Sums × Plan) : Type 0 where
-  pub legal : IsLegal m point.1
-  pub order : IsInOrder point.1
-  pub sums : sums_of m point.1 ≡ point.0
-
--- the pairs of loss and count, without the plans
-abbrev pub pairs_of : List (Sums × Plan) → List Sums
-pairs_of points = map (λ point. point.0) points
+use Rattle.mill_model.specs.Fronts.{LossesRise, CountsFall, Covers, IsPoint, pairs_of}
 
 -- points of the mill, of rising loss and falling count
 pub record IsStaircase (m : Mill) (points : List (Sums × Plan)) : Type 0 where

@@ -1,8 +1,8 @@
 ghost use Rattle.std.specs.Prelude.{◌≡◌, ◌<◌, ◌≤◌, [], ◌∷◌, ◌++◌, length, take, All, IfOk, OnOk};
 ghost use Rattle.mill_model.specs.Plans.{Plan, IsLegal, IsInOrder, sums_of};
-ghost use Rattle.mill_model.specs.Fronts.{IsFront};
+ghost use Rattle.mill_model.specs.Fronts.{IsFront, IsPoint, pairs_of};
 ghost use Rattle.exhaustive_front.specs.Placements.{AreNumbered};
-ghost use Rattle.exhaustive_front.specs.Points.{IsPoint, pairs_of, IsStaircase, KeepsCovered, IsCovered};
+ghost use Rattle.exhaustive_front.specs.Points.{IsStaircase, KeepsCovered, IsCovered};
 
 use crate::least::least_plan;
 use crate::points::offer;

@@ -2,7 +2,8 @@ ghost use Rattle.std.specs.Prelude.{◌≡◌, ℕ, ◌<◌, ◌≤◌, [], leng
 ghost use Rattle.mill_model.specs.Plans.{Plan, IsLegal, places_of, sums_of};
 ghost use Rattle.mill_model.specs.Columns.{size_of, IsInStock};
 ghost use Rattle.exhaustive_front.specs.Placements.{AreNumbered, Holds, IsLeastSize, AreLeast};
-ghost use Rattle.exhaustive_front.specs.Points.{IsPoint, IsAtMost};
+ghost use Rattle.mill_model.specs.Fronts.{IsPoint};
+ghost use Rattle.exhaustive_front.specs.Points.{IsAtMost};
 
 use crate::slab::{colours_on, load_on, size_for};
 use mill_model::{Kind, Mill, Order, Plan, Sums};

@@ -1,7 +1,8 @@
 ghost use Rattle.std.specs.Prelude.{◌≡◌, ◌≤◌, OnOk, filter, nat_lt, not};
 ghost use Rattle.std.specs.List.{list_any, position_or_len};
 ghost use Rattle.mill_model.specs.Mill.{Mill};
-ghost use Rattle.exhaustive_front.specs.Points.{IsPoint, IsStaircase, KeepsCovered, IsCovered, is_at_most};
+ghost use Rattle.mill_model.specs.Fronts.{IsPoint};
+ghost use Rattle.exhaustive_front.specs.Points.{IsStaircase, KeepsCovered, IsCovered, is_at_most};
 
 use mill_model::{Plan, Sums};
 use std::alloc::AllocError;

@@ -4,13 +4,8 @@ use Rattle.std.proofs.lemmas.Bool.{cases_eq}
 use Rattle.mill_model.specs.declared.sums.Sums.{Sums}
 use Rattle.mill_model.specs.Mill.{Mill}
 use Rattle.mill_model.specs.Plans.{IsAttained}
-use Rattle.mill_model.specs.Fronts.{IsUndominated, LossesRise, IsFront}
+use Rattle.mill_model.specs.Fronts.{IsUndominated, LossesRise, CountsFall, Covers, IsFront}
 use Rattle.mill_model.proofs.Gap.{Contains-cases, same_sums, rises_above, rise_tail}
-
-abbrev pub CountsFall : List Sums → Type 0
-CountsFall [] = Unit {0}
-CountsFall (x ∷ []) = Unit {0}
-CountsFall (x ∷ y ∷ ys) = (y.count < x.count) × CountsFall (y ∷ ys)
 
 falls_tail : (x : Sums) (xs : List Sums) → CountsFall (x ∷ xs) → CountsFall xs
 falls_tail x [] f = tt
@@ -42,10 +37,6 @@ one_step (z ∷ zs) r f x y c d l n = elim (Contains-cases z zs x c) [
 
     less : y.loss < x.loss → ⊥
     less h = omega arith
-
--- some member is at most the pair in both numbers
-abbrev pub Covers : List Sums → Sums → Type 0
-Covers xs y = (x : Sums) × Contains xs x × (x.loss ≤ y.loss) × (x.count ≤ y.count)
 
 pub front_by_cover : (m : Mill) (xs : List Sums) → LossesRise xs → CountsFall xs → ((x : Sums) → Contains xs x → IsAttained m x) → ((y : Sums) → IsAttained m y → Covers xs y) → IsFront m xs
 front_by_cover m xs rise fall attained covers = record { rise = rise; exact = λ x. (λ c. (attained x c, undominated x c), λ h. member x h.0 h.1) }

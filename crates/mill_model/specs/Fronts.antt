@@ -26,6 +26,26 @@ pub record IsFront (m : Mill) (xs : List Sums) : Type 0 where
   pub rise : LossesRise xs
   pub exact : (x : Sums) → Contains xs x ↔ (IsAttained m x × IsUndominated m x)
 
+-- the counts fall
+abbrev pub CountsFall : List Sums → Type 0
+CountsFall [] = Unit {0}
+CountsFall (x ∷ []) = Unit {0}
+CountsFall (x ∷ y ∷ ys) = (y.count < x.count) × CountsFall (y ∷ ys)
+
+-- some member is at most the pair in both numbers
+abbrev pub Covers : List Sums → Sums → Type 0
+Covers xs y = (x : Sums) × Contains xs x × (x.loss ≤ y.loss) × (x.count ≤ y.count)
+
+-- a pair of sums and a plan that attains it: the plan is legal, numbers its slabs by their least order, and has these sums
+pub record IsPoint (m : Mill) (point : Sums × Plan) : Type 0 where
+  pub legal : IsLegal m point.1
+  pub order : IsInOrder point.1
+  pub sums : sums_of m point.1 ≡ point.0
+
+-- the pairs of loss and count, without the plans
+abbrev pub pairs_of : List (Sums × Plan) → List Sums
+pairs_of points = map (λ point. point.0) points
+
 -- a point of a certificate: its sums, a plan that attains them, and the steps of a tree that refutes less loss
 pub record Point : Type 0 where
   pub sums : Sums

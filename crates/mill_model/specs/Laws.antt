@@ -6,7 +6,8 @@ use Rattle.mill_model.specs.declared.order.Order.{Order}
 use Rattle.mill_model.specs.declared.steps.Step.{Step}
 use Rattle.mill_model.specs.declared.sums.Sums.{Sums}
 use Rattle.mill_model.specs.declared.limits.Limits.{Limits}
-use Rattle.mill_model.specs.Mill.{Mill}
+use Rattle.mill_model.specs.Mill.{Mill, IsInLimits}
+use Rattle.mill_model.specs.Plain.{IsPlainlyRefuted}
 use Rattle.mill_model.specs.Plans.{Plan, slab, IsLegal, IsAttained, sums_of}
 use Rattle.mill_model.specs.Prices.{Prices, Refutes}
 use Rattle.mill_model.specs.Decisions.{Decision, IsAsk, AreAsks, PlanAgrees, answer_of, agrees, column_agrees}
@@ -64,6 +65,11 @@ NoPointMeansNoPlan = (m : Mill) (last : List Step) (p : Plan) → IsGoodWhole m 
 abbrev pub GoodHeadsBeginTheFront : Type 0
 GoodHeadsBeginTheFront = (m : Mill) (points : List Point) (last : Point) → IsGoodHead m (points ++ last ∷ []) →
     AllByRecursion (IsUndominated m) (sums_list points) × ((x : Sums) → IsAttained m x → FallsBelow x.count (last_sums None points) → last.sums.loss ≤ x.loss)
+
+-- Limits that are plainly refuted are refuted by prices, under any decisions.
+abbrev pub PlainlyRefutedLimitsAreRefuted : Type 0
+PlainlyRefutedLimitsAreRefuted = (m : Mill) (limits : Limits) (decisions : List Decision) → IsInLimits m → IsPlainlyRefuted m limits →
+    (prices : Prices) × Refutes m limits decisions prices
 
 -- A fractional cover and refuting prices don't both exist.
 abbrev pub NoCoverWhereRefuted : Type 0

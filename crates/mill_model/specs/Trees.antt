@@ -79,6 +79,6 @@ ask_count m = length m.orders * (length m.orders - 1) / 2 + length m.orders * le
 abbrev pub most_nodes : Mill → ℕ
 most_nodes m = 2 ^ (ask_count m + 1)
 
--- the node bound: with one tree for each count limit, a missing one and those from the number of orders down to -1, no more nodes are needed
+-- the node bound: so many nodes do for one tree for each count limit, of which the first is missing and the others fall from one less than the number of orders to -1
 abbrev pub node_bound : Mill → ℕ
 node_bound m = (length m.orders + 2) * most_nodes m

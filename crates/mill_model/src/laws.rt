@@ -1,6 +1,6 @@
 //! The laws that join the definitions. Each is the contract of a function that does nothing.
 
-ghost use Rattle.mill_model.specs.Laws.{PricesExcludePlans, PlansAnswerOnce, PlansAgreeBySlabs, TreesExcludePlans, TreesServeSmallerLimits, WholeCertificatesGiveTheFront, NoPointMeansNoPlan, GoodHeadsBeginTheFront, NoCoverWhereRefuted, OneFront, TreesHaveFewNodes, StepsBeginOneTree, PlansAgreeWithWhatFollows, ColumnsAgreeWithWhatFollows, SizesAreLossAndWeights, LegalPlansBreakNoRule};
+ghost use Rattle.mill_model.specs.Laws.{PricesExcludePlans, PlansAnswerOnce, PlansAgreeBySlabs, TreesExcludePlans, TreesServeSmallerLimits, WholeCertificatesGiveTheFront, NoPointMeansNoPlan, GoodHeadsBeginTheFront, NoCoverWhereRefuted, OneFront, TreesHaveFewNodes, StepsBeginOneTree, PlansAgreeWithWhatFollows, ColumnsAgreeWithWhatFollows, SizesAreLossAndWeights, LegalPlansBreakNoRule, PlainlyRefutedLimitsAreRefuted};
 
 /// The sizes of a legal plan's slabs sum to its loss and the weights of all orders: the loss isn't cut off at 0.
 pub fn sizes_are_loss_and_weights()
@@ -75,6 +75,11 @@ pub fn no_point_means_no_plan()
 /// The points of a good head but the last are undominated, and the last has the least loss of those that fall below the point before it.
 pub fn good_heads_begin_the_front()
     ensures { GoodHeadsBeginTheFront }
+{}
+
+/// Limits below 0, and so few new slabs that these and the yard don't hold the orders, are refuted by prices.
+pub fn plainly_refuted_limits_are_refuted()
+    ensures { PlainlyRefutedLimitsAreRefuted }
 {}
 
 /// A fractional cover and refuting prices exclude each other (weak duality).

@@ -29,8 +29,8 @@ pub use illegal::Illegal;
 pub use kind::Kind;
 pub use laws::{
     a_mill_has_one_front, columns_agree_with_what_follows, good_heads_begin_the_front,
-    no_cover_where_refuted, no_point_means_no_plan, plans_agree_by_slabs,
-    plans_agree_with_what_follows, plans_answer_once, prices_exclude_plans,
+    no_cover_where_refuted, no_point_means_no_plan, plainly_refuted_limits_are_refuted,
+    plans_agree_by_slabs, plans_agree_with_what_follows, plans_answer_once, prices_exclude_plans,
     sizes_are_loss_and_weights, steps_begin_one_tree, trees_exclude_plans, trees_have_few_nodes,
     trees_serve_smaller_limits, whole_certificates_give_the_front,
 };

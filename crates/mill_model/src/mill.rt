@@ -25,7 +25,7 @@ impl Model for Mill {
 }
 
 impl Mill {
-    /// A mill with an empty yard.
+    /// A mill with an empty yard. Its numbers are within the limits, and each order's colour is one of its colours.
     pub fn new(sizes: Vec<u16>, colours: u16, orders: Vec<Order>) -> Mill
         requires { IsInLimits (record { sizes = sizes.items; colours = colours; orders = orders.items; yard = [] }) }
         ensures { result ≡ record { sizes = sizes.items; colours = colours; orders = orders.items; yard = [] } }

@@ -7,8 +7,11 @@ use std::marker::Model;
 /// prices refute the limits under the decisions above it.
 #[derive(Drop)]
 pub enum Step {
+    /// Do these two orders lie on one slab?
     Pair(u16, u16),
+    /// Does this order lie on this surplus slab?
     Put(u16, u16),
+    /// The prices of a leaf.
     Leaf(Prices),
 }
 

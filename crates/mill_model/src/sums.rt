@@ -1,6 +1,8 @@
-/// What a plan costs: its loss, which is the weight of the steel that no order takes, and the number of its new slabs.
+/// What a plan costs.
 #[derive(Clone, Copy, Debug, PartialEq, Eq)]
 pub struct Sums {
+    /// The weight of the steel that no order takes.
     pub loss: u32,
+    /// The number of new slabs.
     pub count: u16,
 }

@@ -21,7 +21,7 @@ impl Model for Yard {
 }
 
 impl Yard {
-    /// A yard of slabs of these sizes.
+    /// A yard of slabs of these sizes, which are at most 40, each 1 to 10,000.
     pub fn new(sizes: Vec<u16>) -> Yard
         requires { IsYard sizes.items }
         ensures { result ≡ sizes.items }

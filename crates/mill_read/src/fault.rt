@@ -32,7 +32,9 @@ pub enum Why {
 #[derive(Clone, Copy, Debug, PartialEq, Eq, Error)]
 #[error("word {word}: {why}")]
 pub struct TextFault {
+    /// The number of the word.
     pub word: u32,
+    /// What is wrong with it.
     pub why: Why,
 }
 
@@ -47,8 +49,10 @@ impl TextFault {
 /// Why a text wasn't read: by its first fault, or for want of memory, which may come for any text.
 #[derive(Clone, Copy, Debug, PartialEq, Eq, Error)]
 pub enum TextError {
+    /// The first word that can't stand.
     #[error("{0}")]
     Text(TextFault),
+    /// There was no memory for the lists.
     #[error("out of memory")]
     Memory,
 }

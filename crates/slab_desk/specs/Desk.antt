@@ -94,6 +94,6 @@ abbrev pub AppendsAll : List ℕ → Told → Told → Type 0
 AppendsAll [] old new = Stays old new
 AppendsAll (byte ∷ bytes) old new = Appends (byte ∷ bytes) old new
 
--- a step with some front of these bytes
+-- a step with some prefix of these bytes
 abbrev pub WithPrefix : (List ℕ → Told → Told → Type 0) → List ℕ → Told → Told → Type 0
-WithPrefix step bytes old new = (front back : List ℕ) × (bytes ≡ front ++ back) × step front old new
+WithPrefix step bytes old new = (prefix rest : List ℕ) × (bytes ≡ prefix ++ rest) × step prefix old new

@@ -8,10 +8,15 @@ use slab_counter::raised;
 /// A kind of call of a desk.
 #[derive(Clone, Copy, Debug, PartialEq, Eq)]
 pub enum Act {
+    /// Of `open_file`.
     OpenFile,
+    /// Of `read`.
     Read,
+    /// Of `create_file`.
     Create,
+    /// Of `write`.
     Write,
+    /// Of `say`.
     Say,
 }
 

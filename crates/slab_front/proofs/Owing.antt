@@ -9,11 +9,10 @@ use Rattle.mill_model.specs.declared.illegal.Illegal.TheVariants.{Places}
 use Rattle.mill_model.specs.Mill.{Mill}
 use Rattle.mill_model.specs.Plans.{Plan}
 use Rattle.mill_model.specs.Judging.{first_broken, breaks, rules_of}
-use Rattle.mill_model.specs.Fronts.{IsFront}
+use Rattle.mill_model.specs.Fronts.{IsFront, IsPoint, pairs_of}
 use Rattle.mill_read.specs.declared.fault.TextFault.{TextFault}
 use Rattle.mill_read.specs.OrderFile.{order_file}
 use Rattle.mill_read.specs.YardFile.{yard_file}
-use Rattle.exhaustive_front.specs.Points.{IsPoint, pairs_of}
 use Rattle.slab_front.specs.declared.texts.Source.{Source}
 use Rattle.slab_front.specs.declared.texts.Source.TheVariants.{Orders, Yard as YardSource}
 use Rattle.slab_front.specs.Words.{Command, Parsed}

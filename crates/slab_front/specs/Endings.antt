@@ -39,14 +39,14 @@ IsStop owes told before now Memory = ⊤
 abbrev pub IsEnding : (Files → Owing) → Option Told → Ending → Type 0
 IsEnding owes told ending = WhereTold told (λ t. owes t.files ending.status (string_bytes ending.text))
 
--- the status that the answer leads to is one of these words
+-- the status that the answer leads to is one that these words may end with
 abbrev pub MayAnswer : Parsed Command → Result Ending Stop → Type 0
 MayAnswer parsed (Ok ending) = MayEnd parsed ending.status
 MayAnswer parsed (Err (Refused text)) = MayEnd parsed 2
 MayAnswer parsed (Err Fault) = ⊤
 MayAnswer parsed (Err Memory) = ⊤
 
--- the text was said, and the answer is its status, or a front of it where the outside failed
+-- the text was said, and the answer is its status, or a prefix of it where the outside failed
 pub record Finishes (code : ℕ) (text : List ℕ) (old new : Option Told) (result : ℕ) : Type 0 where
   pub status : (result ≡ code) ⊎ (result ≡ 5)
   pub said : result ≢ 5 → Steps old new (Says text)

@@ -8,12 +8,11 @@ use Rattle.mill_model.specs.declared.illegal.Illegal.{Illegal}
 use Rattle.mill_model.specs.Mill.{Mill}
 use Rattle.mill_model.specs.Plans.{Plan, IsLegal, sums_of}
 use Rattle.mill_model.specs.Judging.{first_broken}
-use Rattle.mill_model.specs.Fronts.{IsFront}
+use Rattle.mill_model.specs.Fronts.{IsFront, IsPoint, pairs_of}
 use Rattle.mill_read.specs.declared.fault.TextFault.{TextFault}
 use Rattle.mill_read.specs.OrderFile.{order_file}
 use Rattle.mill_read.specs.YardFile.{yard_file}
 use Rattle.mill_read.specs.PlanFile.{plan_file}
-use Rattle.exhaustive_front.specs.Points.{IsPoint, pairs_of}
 use Rattle.slab_front.specs.declared.texts.Source.{Source}
 use Rattle.slab_front.specs.declared.texts.Source.TheVariants.{Orders, Yard as YardSource, Plan as PlanSource}
 use Rattle.slab_front.specs.Words.{Command, Parsed, job_of}
@@ -72,7 +71,7 @@ abbrev pub OwesSolved : Mill → Owing
 OwesSolved mill status text =
     MatchBool (nat_lt 5 (length mill.orders)) (Exactly 9 not_built_text status text) (OwesFront mill status text)
 
--- the sums of a legal plan, and else the first rule that it breaks
+-- the sums, where the plan is legal, and else the first rule that it breaks
 abbrev pub OwesVerdict : Mill → Plan → Owing
 OwesVerdict mill plan status text =
     ((status ≡ 0) × IsLegal mill plan × (text ≡ legal_text (sums_of mill plan)))
@@ -104,7 +103,7 @@ SaysOnly text old new = new ≡ record old { left = new.left; said = old.said ++
 abbrev pub SaysOwed : (Files → Owing) → ℕ → Told → Told → Type 0
 SaysOwed owes status old new = (text : List ℕ) × owes old.files status text × SaysOnly text old new
 
--- nothing was said, or the front of a text that is owed, or of the one for want of memory
+-- nothing was said, or a prefix of a text that is owed, or of the one for want of memory
 abbrev pub StopsShort : (Files → Owing) → Told → Told → Type 0
 StopsShort owes old new =
     SaysOnly [] old new

@@ -32,7 +32,7 @@ pub fn judge<D: Desk>(
     Ok(verdict(alloc, &mill, &plan)?)
 }
 
-// The sums of a legal plan, or the first rule that it breaks.
+// The sums, where the plan is legal, or the first rule that it breaks.
 fn verdict(alloc: Global, mill: &Mill, plan: &Plan) -> Result<Ending, AllocError>
     requires { length plan.now.place ≡ length mill.now.orders }
     ensures owed { IfOk result (λ ending. OwesVerdict mill.now plan.now ending.status (string_bytes ending.text)) }

@@ -27,7 +27,7 @@ use std::alloc::Global;
 /// | 1 | the words can't stand |
 /// | 2 | a file isn't in its grammar, or is longer than 1,048,576 bytes |
 /// | 4 | a mill to be solved has no legal plan |
-/// | 5 | the outside failed: the desk's count of faults rose, or stands at its last value; what was said is a front of a text |
+/// | 5 | the outside failed: the desk's count of faults rose, or stands at its last value; what was said is a prefix of a text |
 /// | 6 | memory ran out, and only that was said |
 /// | 8 | a judged plan is illegal |
 /// | 9 | a mill to be solved has more than five orders |

@@ -72,7 +72,7 @@ impl Files<'_> {
         Ok(())
     }
 
-    /// The run of these words, where this call fails, answers 5 and says this front of a text.
+    /// The run of these words, where this call fails, answers 5 and says this prefix of a text.
     pub fn fail(
         &self,
         rt: &impl Abort,

@@ -1,0 +1,6 @@
+use Rattle.std.proofs.Common.{take}
+use Rattle.loss_table.specs.LeastSizes.{IsAnswer}
+use Rattle.loss_table.proofs.least_size.least_size.Given as goal
+
+abbrev pub invariant-loop-size : goal.invariant-loop-size
+invariant-loop-size l = IsAnswer (take l.size-index l.sizes) l.load l.least

@@ -1,0 +1,10 @@
+//! From the load of a slab to the least slab size of the mill that holds it.
+#![tactic(auto)]
+
+mod least_size;
+mod loss_table;
+
+pub use loss_table::LossTable;
+
+#[cfg(test)]
+mod tests;

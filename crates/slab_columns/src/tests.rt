@@ -1,0 +1,60 @@
+ghost use Rattle.std.specs.Prelude.{◌≡◌, [], ◌∷◌, IfOk};
+ghost use Rattle.mill_model.specs.Columns.{IsLegalColumn};
+ghost use Rattle.slab_columns.specs.Columns.{column_of};
+
+use crate::{AddError, ColId, Fulls, Pool};
+use mill_model::{Kind, Mill, Order};
+use std::alloc::{AllocError, Global};
+use std::test::Fail;
+
+/// A mill that casts slabs of 4 and of 10, with two orders of weight 4 and one colour.
+fn mill_of_two_orders(alloc: Global) -> Result<Mill, AllocError>
+    ensures { IfOk result (λ mill. mill ≡ record { sizes = 4 ∷ 10 ∷ []; colours = 1; orders = record { weight = 4; colour = 1 } ∷ record { weight = 4; colour = 1 } ∷ []; yard = [] }) }
+{
+    let order = Order {
+        weight: 4,
+        colour: 1,
+    };
+    let sizes = vec![in alloc; 4, 10]?;
+    let orders = vec![in alloc; order, order]?;
+    Ok(Mill::new(sizes, 1, orders))
+}
+
+/// The numbers of three columns, of which the first two are the same.
+fn add_three(alloc: Global, pool: &mut Pool, fulls: &mut Fulls) -> Result<[ColId; 3], AddError>
+    requires both { IsLegalColumn pool.old.mill (column_of (Kind.New 10) (0 ∷ 1 ∷ [])) }
+    requires second { IsLegalColumn pool.old.mill (column_of (Kind.New 4) (1 ∷ [])) }
+{
+    let both = [0, 1];
+    let first = pool.add(alloc, Kind::New(10), &both, fulls)?;
+    let again = pool.add(alloc, Kind::New(10), &both, fulls)?;
+    let other = pool.add(alloc, Kind::New(4), &[1], fulls)?;
+    Ok([first, again, other])
+}
+
+/// Whether the pool finds this column and lends it.
+fn has(pool: &Pool, kind: Kind, orders: &[u16]) -> bool {
+    match pool.find(kind, orders) {
+        Some(id) => {
+            let column = pool.column(id);
+            column.kind == kind && column.orders == orders
+        }
+        None => false,
+    }
+}
+
+#[test]
+fn columns_keep_their_numbers(rt: HostRuntime) -> Result<(), Fail> {
+    let alloc = rt.alloc();
+    let mill = mill_of_two_orders(alloc)?;
+    let mut pool = Pool::new(alloc, &mill)?;
+    let mut fulls = Fulls::new();
+    let [first, again, other] = add_three(alloc, &mut pool, &mut fulls)?;
+    assert!(rt; first == ColId(0) && again == ColId(0) && other == ColId(1));
+    assert!(rt; pool.len() == 2 && fulls.count() == 0);
+    assert!(rt; has(&pool, Kind::New(10), &[0, 1]) && has(&pool, Kind::New(4), &[1]));
+    assert!(rt; !has(&pool, Kind::New(10), &[1]));
+    pool.restart();
+    assert!(rt; pool.is_empty() && !has(&pool, Kind::New(10), &[0, 1]));
+    Ok(())
+}
