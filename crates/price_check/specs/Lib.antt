@@ -1,0 +1,4 @@
+pub mod Questions
+pub mod Path
+pub mod Marks
+pub mod Kinds

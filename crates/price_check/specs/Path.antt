@@ -1,0 +1,28 @@
+-- A path down a tree, as contracts see it.
+use Rattle.std.specs.Prelude.{ℕ, ◌≤◌, List, [], ◌∷◌, map, length}
+use Rattle.std.specs.List.{AllByRecursion}
+use Rattle.mill_model.specs.declared.ask.Ask.{Ask}
+use Rattle.mill_model.specs.Decisions.{Decision}
+use Rattle.mill_model.specs.Trees.{IsFresh}
+use Rattle.price_check.specs.Questions.{IsAskOf, ask_count}
+
+pub record Path : Type 0 where
+  -- how many orders and surplus slabs the mill has
+  pub orders : ℕ
+  pub slabs : ℕ
+  -- the latest first
+  pub decisions : List Decision
+
+abbrev pub asks_of : List Decision → List Ask
+asks_of decisions = map (λ (d : Decision). d.0) decisions
+
+-- no question is asked twice
+abbrev pub AreDistinct : List Decision → Type 0
+AreDistinct [] = Unit {0}
+AreDistinct (d ∷ decisions) = IsFresh d.0 decisions × AreDistinct decisions
+
+-- what is true of every path
+pub record IsPath (p : Path) : Type 0 where
+  pub asks : AllByRecursion (λ (d : Decision). IsAskOf p.orders p.slabs d.0) p.decisions
+  pub distinct : AreDistinct p.decisions
+  pub count : length p.decisions ≤ ask_count p.orders p.slabs
