@@ -86,7 +86,8 @@ impl Master {
         )
     }
 
-    /// Lends one working row for writing. The other rows and what was given stay.
+    /// Lends one working row for writing, which is empty before the first solve. What was given stays, and each solve makes
+    /// its working rows anew.
     pub fn row_mut(&mut self, i: usize) -> &mut [Frac]
         requires { i < length self.old.rows }
         ensures* { sem 𝓛 (LendsWorkingRow self.entry result) }

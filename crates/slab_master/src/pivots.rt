@@ -7,8 +7,9 @@ use slab_frac::{Frac, Wides};
 use std::cmp::Ordering;
 use std::mem;
 
-/// After so many pivots that moved nothing the first column with a negative cost enters, so that no basis comes again.
-const IDLE: u32 = 64;
+/// After so many pivots that moved nothing, and 4 more for each row, the first column with a negative cost enters, so that no
+/// basis comes again.
+const IDLE: usize = 64;
 
 /// What one step of the simplex did.
 pub(crate) enum Step {
@@ -159,11 +160,16 @@ fn clear_cells(rows: &mut [Vec<Frac>], pivot: &[Frac], column: usize, wides: &mu
 }
 
 impl Tableau {
-    /// The column that enters: of the preferred ones, else of all, the one with the least cost.
+    /// The column that enters: of the preferred ones, else of all, the one with the least cost. None enters where the
+    /// artificial variables are all 0.
     fn entering(&self) -> Option<usize> {
+        if right_side(&self.costs).num() == 0 {
+            return None;
+        }
         let count = self.enterable.min(self.costs.len());
         let costs = &self.costs[..count];
-        if self.idle >= IDLE {
+        let patience = self.rows.len().saturating_mul(4).saturating_add(IDLE);
+        if self.idle >= patience {
             return first_negative(costs);
         }
         match most_negative_among(costs, &self.preferred) {

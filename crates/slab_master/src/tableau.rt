@@ -32,7 +32,7 @@ pub(crate) struct Tableau {
     pub(crate) enterable: usize,
 
     /// How many pivots in a row moved nothing.
-    pub(crate) idle: u32,
+    pub(crate) idle: usize,
 }
 
 /// The cell at a place, or 0 past the end.
@@ -263,6 +263,7 @@ impl Tableau {
         ensures grows { wides.old ≤ wides.new }
         ensures wide { IfOk result (λ fits. OnFalse fits (Rose wides.old wides.new)) }
     {
+        self.basis.clear();
         self.given = columns.len();
         self.enterable = columns.len().saturating_add(count_slacks(rows));
         self.idle = 0;

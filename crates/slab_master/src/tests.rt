@@ -162,3 +162,23 @@ fn sums_entries_of_one_row(rt: HostRuntime) -> Result<(), Fail> {
     assert!(rt; holds(rt.alloc(), &rows, &columns, Some(&[(2, 1)]))?);
     Ok(())
 }
+
+#[test]
+fn keeps_a_spread_that_is_at_hand(rt: HostRuntime) -> Result<(), Fail> {
+    // Nothing at all meets both rows; a pivot would leave the range.
+    let rows = [(Sense::Equal, 0), (Sense::AtMost, 1)];
+    let columns: [&[(u16, i64)]; 2] = [
+        &[(0, 743969299926)],
+        &[(0, 856612399355), (1, -524027112809)],
+    ];
+    assert!(rt; holds(rt.alloc(), &rows, &columns, Some(&[(0, 1), (0, 1)]))?);
+    Ok(())
+}
+
+#[test]
+fn meets_rows_that_say_the_same(rt: HostRuntime) -> Result<(), Fail> {
+    let rows = [(Sense::Equal, 2), (Sense::Equal, 4), (Sense::Equal, 0)];
+    let columns: [&[(u16, i64)]; 2] = [&[(0, 1), (1, 2)], &[(2, 3)]];
+    assert!(rt; holds(rt.alloc(), &rows, &columns, Some(&[(2, 1), (0, 1)]))?);
+    Ok(())
+}
