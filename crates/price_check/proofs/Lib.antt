@@ -2,3 +2,14 @@ pub mod Places
 pub mod Marks
 pub mod Trails
 pub mod Reversed
+pub mod Quotes
+pub mod Sums
+pub mod Pricing
+pub mod Walks
+pub mod Offers
+pub mod ColourPairs
+pub mod Suffixes
+pub mod Options
+pub mod Searches
+pub mod Stock
+pub mod LeafRules

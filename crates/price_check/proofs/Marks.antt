@@ -8,7 +8,7 @@ use Rattle.mill_model.specs.declared.ask.Ask.{Ask}
 use Rattle.mill_model.specs.Decisions.{Decision}
 use Rattle.mill_model.specs.Trees.{IsFresh}
 use Rattle.price_check.specs.Questions.{IsAskOf, ask_count}
-use Rattle.price_check.specs.Path.{asks_of, AreDistinct, IsPath}
+use Rattle.price_check.specs.Path.{asks_of, AreDistinct, ArePath}
 use Rattle.price_check.specs.Marks.{place_of, AreMarked}
 use Rattle.price_check.proofs.Places.{place_of-injective}
 
@@ -88,5 +88,5 @@ module _ (n s : ℕ) where
   pub few_decisions : (decisions : List Decision) (marks : List Bool) → AreMarked n s decisions marks → length decisions ≤ length marks
   few_decisions decisions marks are = omega (arith, counted decisions marks are)
 
-  pub IsPath-from_marks : (decisions : List Decision) (marks : List Bool) → AreMarked n s decisions marks → length marks ≡ ask_count n s → IsPath (record { orders = n; slabs = s; decisions = decisions })
-  IsPath-from_marks decisions marks are size = record { asks = all_asked decisions marks are; distinct = all_distinct decisions marks are; count = omega (arith, few_decisions decisions marks are) }
+  pub ArePath-from_marks : (decisions : List Decision) (marks : List Bool) → AreMarked n s decisions marks → length marks ≡ ask_count n s → ArePath n s decisions
+  ArePath-from_marks decisions marks are size = record { asks = all_asked decisions marks are; distinct = all_distinct decisions marks are; count = omega (arith, few_decisions decisions marks are) }

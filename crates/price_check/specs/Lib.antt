@@ -2,3 +2,10 @@ pub mod Questions
 pub mod Path
 pub mod Marks
 pub mod Kinds
+pub mod Numbers
+pub mod Rules
+pub mod Exceeding
+pub mod Gains
+pub mod Search
+pub mod Sizes
+pub mod Leaves

@@ -1,7 +1,8 @@
 -- A path down a tree, as contracts see it.
-use Rattle.std.specs.Prelude.{ℕ, ◌≤◌, List, [], ◌∷◌, map, length}
+use Rattle.std.specs.Prelude.{ℕ, ◌≤◌, List, [], ◌∷◌, map, length, Option}
 use Rattle.std.specs.List.{AllByRecursion}
 use Rattle.mill_model.specs.declared.ask.Ask.{Ask}
+use Rattle.mill_model.specs.Columns.{Column}
 use Rattle.mill_model.specs.Decisions.{Decision}
 use Rattle.mill_model.specs.Trees.{IsFresh}
 use Rattle.price_check.specs.Questions.{IsAskOf, ask_count}
@@ -12,6 +13,14 @@ pub record Path : Type 0 where
   pub slabs : ℕ
   -- the latest first
   pub decisions : List Decision
+  -- the column that the last test of a leaf found, where nothing has changed since
+  pub bad : Option Column
+
+-- the decisions alone
+pub record Trail : Type 0 where
+  pub orders : ℕ
+  pub slabs : ℕ
+  pub decisions : List Decision
 
 abbrev pub asks_of : List Decision → List Ask
 asks_of decisions = map (λ (d : Decision). d.0) decisions
@@ -21,8 +30,8 @@ abbrev pub AreDistinct : List Decision → Type 0
 AreDistinct [] = Unit {0}
 AreDistinct (d ∷ decisions) = IsFresh d.0 decisions × AreDistinct decisions
 
--- what is true of every path
-pub record IsPath (p : Path) : Type 0 where
-  pub asks : AllByRecursion (λ (d : Decision). IsAskOf p.orders p.slabs d.0) p.decisions
-  pub distinct : AreDistinct p.decisions
-  pub count : length p.decisions ≤ ask_count p.orders p.slabs
+-- what is true of the decisions of every path for so many orders and surplus slabs
+pub record ArePath (orders slabs : ℕ) (decisions : List Decision) : Type 0 where
+  pub asks : AllByRecursion (λ (d : Decision). IsAskOf orders slabs d.0) decisions
+  pub distinct : AreDistinct decisions
+  pub count : length decisions ≤ ask_count orders slabs

@@ -1,21 +1,35 @@
-//! The path down a tree.
-ghost use Rattle.std.specs.Prelude.{◌≡◌, ◌<◌, ◌∷◌, ◌↔◌, [], true, false, IfOk, IsSome, IsTrue, Contains, length, unwrap_or, if◌then◌else◌};
+//! The path down a tree, and the test of a leaf there.
+ghost use Rattle.std.specs.Prelude.{◌≡◌, ◌<◌, ◌∷◌, ◌↔◌, [], true, false, None, Some, Err, IfOk, IfErr, IfSome, OnOk, OnErr, IsSome, IsTrue, Contains, length, unwrap_or, if◌then◌else◌};
 ghost use Rattle.mill_model.specs.Columns.{Rises};
 ghost use Rattle.mill_model.specs.Decisions.{column_agrees};
 ghost use Rattle.mill_model.specs.Paths.{next_branch as branch_after};
+ghost use Rattle.mill_model.specs.Prices.{Refutes};
 ghost use Rattle.price_check.specs.Questions.{IsAskOf};
 ghost use Rattle.price_check.specs.Kinds.{IsKindOf};
+ghost use Rattle.price_check.specs.Numbers.{prices_of};
+ghost use Rattle.price_check.specs.Rules.{HasCount, BreaksFirst};
+ghost use Rattle.price_check.specs.Exceeding.{IsExceeding};
 
+use crate::bad::Bad;
+use crate::quote::Quote;
+use crate::rules::{has_limits, has_signs, is_worth};
+use crate::search::search;
 use crate::trail::Trail;
-use mill_model::{Ask, Kind, Mill};
+use cert_view::Nums;
+use mill_model::{Ask, Kind, Limits, Mill};
 use std::alloc::{AllocError, Global};
 use std::marker::Model;
 
 /// A path down a tree of questions: its decisions, of which contracts see the latest first. No question stands twice,
-/// so there are at most n(n-1)/2 + n*S decisions for n orders and S surplus slabs, 41,125 at the limits.
+/// so there are at most n(n-1)/2 + n*S decisions for n orders and S surplus slabs, 41,125 at the limits. Where the last
+/// call that changed the path was a test of a leaf that found an exceeding column, it has that column too.
 #[derive(Drop)]
 pub struct Path {
     trail: Trail,
+    quote: Quote,
+    rest: Vec<i128>,
+    chosen: Vec<u16>,
+    bad: Option<Kind>,
 }
 
 impl Model for Path {
@@ -23,35 +37,54 @@ impl Model for Path {
 
     ghost Value = { Path };
 
-    ghost view = { λ p. p.trail };
+    ghost use Rattle.std.specs.Vec.{vec_capacity};
+    ghost use Rattle.price_check.specs.Leaves.{seen_path, IsReady};
+
+    ghost view = { λ p. seen_path p.trail p.bad p.chosen.items };
+
+    ghost invariant = { λ p. IsReady p.trail p.quote p.rest.items (vec_capacity p.chosen) };
 }
 
 impl Path {
-    ghost use Rattle.price_check.specs.Path.{IsPath, asks_of};
+    ghost use Rattle.price_check.specs.Path.{ArePath, asks_of};
 
-    /// An empty path for a mill. It takes all the memory that a path ever takes: for each question of the mill a decision
-    /// (6 bytes) and a mark (one byte), 287,875 bytes at the limits.
+    /// An empty path for a mill of n orders and S surplus slabs. It takes all the memory that a path ever takes: for each
+    /// of the n(n-1)/2 + n*S questions a decision (at most 8 bytes) and a mark (one byte), for each price 8 bytes, for each
+    /// order a bound (16 bytes, and 16 more) and a place in a column (2 bytes): less than 380 KB at the limits.
     pub fn new(alloc: Global, mill: &Mill) -> Result<Path, AllocError>
-        ensures { IfOk result (λ p. p ≡ record { orders = length mill.now.orders; slabs = length mill.now.yard; decisions = [] }) }
+        ensures { IfOk result (λ p. p ≡ record { orders = length mill.now.orders; slabs = length mill.now.yard; decisions = []; bad = None }) }
     {
-        let trail = Trail::new(alloc, mill.orders().len(), mill.yard().len())?;
-        Ok(Path { trail })
+        let orders = mill.orders().len();
+        let slabs = mill.yard().len();
+        let trail = Trail::new(alloc, orders, slabs)?;
+        let quote = Quote::new(alloc, orders, slabs)?;
+        let rest = vec![in alloc; 0; orders + 1]?;
+        let chosen = Vec::with_capacity(alloc, orders)?;
+        Ok(Path {
+            trail,
+            quote,
+            rest,
+            chosen,
+            bad: None,
+        })
     }
 
     /// Takes all decisions off.
     pub fn clear(&mut self)
-        ensures { self.new ≡ record self.old { decisions = [] } }
+        ensures { self.new ≡ record self.old { decisions = []; bad = None } }
     {
-        while let Some(_) = self.trail.pop() {}
+        self.bad = None;
+        self.trail.clear();
     }
 
     /// Adds a question with the answer yes and answers true. Where the question stands on the path already, it answers
-    /// false and nothing changes.
+    /// false and the decisions stay.
     pub fn push(&mut self, ask: Ask) -> bool
         requires { IsAskOf self.old.orders self.old.slabs ask }
         ensures stands { (result ≡ false) ↔ Contains (asks_of self.old.decisions) ask }
-        ensures path { self.new ≡ record self.old { decisions = (if result then (ask, true) ∷ self.old.decisions else self.old.decisions) } }
+        ensures path { self.new ≡ record self.old { decisions = (if result then (ask, true) ∷ self.old.decisions else self.old.decisions); bad = None } }
     {
+        self.bad = None;
         if self.trail.stands(ask) {
             return false;
         }
@@ -63,15 +96,10 @@ impl Path {
     /// left from yes to no. It answers false where none is left, and the path is then empty.
     pub fn next_branch(&mut self) -> bool
         ensures left { IsTrue result ↔ IsSome (branch_after self.old.decisions) }
-        ensures path { self.new ≡ record self.old { decisions = unwrap_or (branch_after self.old.decisions) [] } }
+        ensures path { self.new ≡ record self.old { decisions = unwrap_or (branch_after self.old.decisions) []; bad = None } }
     {
-        while let Some((ask, answer)) = self.trail.pop() {
-            if answer {
-                self.trail.put(ask, false);
-                return true;
-            }
-        }
-        false
+        self.bad = None;
+        self.trail.next_branch()
     }
 
     /// Whether a column agrees with each decision. It takes no memory.
@@ -79,8 +107,59 @@ impl Path {
         requires rises { Rises 0 self.now.orders orders.now }
         requires kind { IsKindOf self.now.slabs kind }
         ensures value { result ≡ column_agrees self.now.decisions (record { kind = kind; orders = orders.now }) }
-        ensures path { IsPath self.now }
+        ensures path { ArePath self.now.orders self.now.slabs self.now.decisions }
     {
         self.trail.agrees(kind, orders)
+    }
+
+    /// Whether the numbers of a leaf are prices that refute the limits under the decisions (a Farkas certificate); if
+    /// not, the first rule that they break. The decisions stay, and where columns exceed, the path then has one. It takes
+    /// no memory.
+    pub fn leaf_ok(&mut self, mill: &Mill, limits: Limits, numbers: &Nums<'_>) -> Result<(), Bad>
+        requires orders { self.old.orders ≡ length mill.now.orders }
+        requires slabs { self.old.slabs ≡ length mill.now.yard }
+        ensures refutes { OnOk result (HasCount mill.now numbers.now × Refutes mill.now limits self.old.decisions (prices_of (length mill.now.orders) numbers.now)) }
+        ensures first { IfErr result (BreaksFirst mill.now limits self.old.decisions numbers.now) }
+        ensures path { self.new ≡ record self.old { bad = self.new.bad } }
+        ensures found { (result ≡ Err Bad.Column) ↔ IsSome self.new.bad }
+        ensures exceeds { IfSome self.new.bad (IsExceeding mill.now self.old.decisions (prices_of (length mill.now.orders) numbers.now)) }
+    {
+        self.bad = None;
+        if numbers.len() != 2 + mill.orders().len() + mill.yard().len() {
+            return Err(Bad::Count);
+        }
+        self.quote.read(numbers);
+        if !has_signs(&self.quote) {
+            return Err(Bad::Sign);
+        }
+        if !has_limits(limits, &self.quote) {
+            return Err(Bad::Missing);
+        }
+        if !is_worth(limits, &self.quote) {
+            return Err(Bad::Sum);
+        }
+        self.bad = search(
+            mill,
+            &self.trail,
+            &self.quote,
+            &mut self.rest,
+            &mut self.chosen,
+        );
+        if self.bad.is_some() {
+            return Err(Bad::Column);
+        }
+        Ok(())
+    }
+
+    /// The exceeding column that the last test of a leaf found: its slab, a new one of the least size that holds it, and
+    /// its orders. That test was the last call that could change the path.
+    pub fn bad_column(&self) -> (Kind, &[u16])
+        requires { IsSome self.now.bad }
+        ensures { self.now.bad ≡ Some (record { kind = result.0; orders = result.1.now }) }
+    {
+        match self.bad {
+            Some(kind) => (kind, &self.chosen),
+            None => unreachable!(),
+        }
     }
 }

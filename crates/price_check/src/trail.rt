@@ -1,7 +1,8 @@
 //! Decisions one after another, with a mark for each question that is answered.
-ghost use Rattle.std.specs.Prelude.{◌≡◌, ◌≤◌, ◌∷◌, ◌↔◌, [], true, IfOk, IsTrue, MatchOption, Contains, reverse};
+ghost use Rattle.std.specs.Prelude.{◌≡◌, ◌≤◌, ◌∷◌, ◌↔◌, [], true, IfOk, IsSome, IsTrue, unwrap_or, MatchOption, Contains, reverse};
 ghost use Rattle.mill_model.specs.Columns.{has, is_old};
 ghost use Rattle.mill_model.specs.Decisions.{agrees, column_agrees};
+ghost use Rattle.mill_model.specs.Paths.{next_branch as branch_after};
 ghost use Rattle.mill_model.specs.Trees.{IsFresh};
 ghost use Rattle.price_check.specs.Questions.{IsAskOf};
 
@@ -20,9 +21,9 @@ pub(crate) struct Trail {
 }
 
 impl Model for Trail {
-    ghost use Rattle.price_check.specs.Path.{Path};
+    ghost use Rattle.price_check.specs.Path.{Trail};
 
-    ghost Value = { Path };
+    ghost Value = { Trail };
 
     ghost use Rattle.std.specs.Prelude.{reverse};
     ghost use Rattle.std.specs.Vec.{vec_capacity};
@@ -34,7 +35,7 @@ impl Model for Trail {
 }
 
 impl Trail {
-    ghost use Rattle.price_check.specs.Path.{IsPath, asks_of};
+    ghost use Rattle.price_check.specs.Path.{ArePath, asks_of};
 
     // No decisions, and the memory for an answer to each question.
     pub(crate) fn new(alloc: Global, orders: usize, slabs: usize) -> Result<Trail, AllocError>
@@ -83,10 +84,31 @@ impl Trail {
         Some((ask, answer))
     }
 
+    // Takes off all decisions.
+    pub(crate) fn clear(&mut self)
+        ensures { self.new ≡ record self.old { decisions = [] } }
+    {
+        while let Some(_) = self.pop() {}
+    }
+
+    // Takes off the latest decisions whose answer is no, and turns the one before them from yes to no, if there is one.
+    pub(crate) fn next_branch(&mut self) -> bool
+        ensures left { IsTrue result ↔ IsSome (branch_after self.old.decisions) }
+        ensures path { self.new ≡ record self.old { decisions = unwrap_or (branch_after self.old.decisions) [] } }
+    {
+        while let Some((ask, answer)) = self.pop() {
+            if answer {
+                self.put(ask, false);
+                return true;
+            }
+        }
+        false
+    }
+
     // Whether a column agrees with each decision.
     pub(crate) fn agrees(&self, kind: Kind, orders: &[u16]) -> bool
         ensures value { result ≡ column_agrees self.now.decisions (record { kind = kind; orders = orders.now }) }
-        ensures path { IsPath self.now }
+        ensures path { ArePath self.now.orders self.now.slabs self.now.decisions }
     {
         agrees_with_all(&self.decisions, kind, orders)
     }

@@ -1,0 +1,4 @@
+pub mod Closed
+pub mod Labels
+pub mod Written
+pub mod Starts

@@ -1,0 +1,9 @@
+//! How surplus slabs and orders stand to each other under branching decisions: in one group, in two, or either, with all
+//! consequences drawn.
+#![tactic(auto)]
+
+mod closure;
+mod relation;
+
+pub use closure::Closure;
+pub use relation::Relation;

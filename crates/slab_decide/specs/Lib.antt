@@ -1,0 +1,4 @@
+pub mod Decided
+pub mod Nodes
+pub mod Kept
+pub mod OpenAsks
