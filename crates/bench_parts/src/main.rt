@@ -2,6 +2,8 @@
 //! from outside. It prints no time of its own.
 #![tactic(auto)]
 
+mod leaves;
+mod lines;
 mod masters;
 mod random;
 mod words;
@@ -26,7 +28,7 @@ fn run<R: Env + AllocGlobal + Print>(rt: &R) -> std::io::Result<bool> {
         words.push(word)?;
     }
     let Some(work) = read_work(&words) else {
-        println!(rt; "usage: bench_parts master ROWS COLUMNS TIMES SEED")?;
+        println!(rt; "usage: bench_parts master|lines|leaves SIZE COUNT TIMES SEED")?;
         return Ok(false);
     };
     match work.part {
@@ -36,6 +38,14 @@ fn run<R: Env + AllocGlobal + Print>(rt: &R) -> std::io::Result<bool> {
                 "pivots {} spreads {} prices {} wides {} stalls {}",
                 done.pivots, done.spreads, done.prices, done.wides, done.stalls
             )?;
+        }
+        Part::Lines => {
+            let sum = lines::read_lines(alloc, &work)?;
+            println!(rt; "sum {sum}")?;
+        }
+        Part::Leaves => {
+            let good = leaves::test_leaves(alloc, &work)?;
+            println!(rt; "refuting {good}")?;
         }
     }
     Ok(true)

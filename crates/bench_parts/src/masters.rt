@@ -22,7 +22,7 @@ pub struct Done {
 
 /// Solves as many masters as the work names, of its rows and columns.
 pub fn solve_masters(alloc: Global, work: &Work) -> Result<Done, AllocError>
-    requires { 2 ≤ work.now.rows }
+    requires { 2 ≤ work.now.size }
 {
     let mut random = Random {
         state: u64::from(work.seed),
@@ -32,7 +32,7 @@ pub fn solve_masters(alloc: Global, work: &Work) -> Result<Done, AllocError>
     let mut spreads = 0;
     let mut prices = 0;
     'solves: for _ in 0..work.times {
-        let mut master = random_master(alloc, work.rows, work.columns, &mut random)?;
+        let mut master = random_master(alloc, work.size, work.count, &mut random)?;
         match master.solve(alloc, &mut wides, &mut stalls)? {
             Outcome::Spread(_) => spreads = raised(spreads),
             Outcome::Prices(_) => prices = raised(prices),

@@ -5,36 +5,43 @@ ghost use Rattle.std.specs.Prelude.{◌≤◌, IfSome};
 /// What is timed.
 #[derive(Clone, Copy, Debug, PartialEq, Eq)]
 pub enum Part {
-    /// The restricted master, over random columns.
+    /// The restricted master, over random columns: the size is the number of rows, the count that of the columns.
     Master,
+    /// The lines of a certificate: the size is the number of numbers on each, the count that of the lines.
+    Lines,
+    /// The test of a leaf: the size is the number of orders, the count that of the decisions above it.
+    Leaves,
 }
 
 /// A part, and the size of its work.
 #[derive(Clone, Copy, Debug)]
 pub struct Work {
     pub part: Part,
-    pub rows: u16,
-    pub columns: u16,
+    /// 2 to 292.
+    pub size: u16,
+    pub count: u16,
+    /// How often it is done.
     pub times: u16,
+    /// Where the random numbers begin.
     pub seed: u16,
 }
 
-/// The work that the words name, if they name some: a part, from 2 to 292 rows, a number of columns, how often, and a seed.
+/// The work that the words name, if they name some: a part, a size from 2 to 292, a count, how often, and a seed.
 pub fn read_work(words: &[String]) -> Option<Work>
-    ensures { IfSome result (λ work. (2 ≤ work.rows) × (work.rows ≤ 292)) }
+    ensures { IfSome result (λ work. (2 ≤ work.size) × (work.size ≤ 292)) }
 {
-    let [part, rows, columns, times, seed] = words else {
+    let [part, size, count, times, seed] = words else {
         return None;
     };
     let part = part_of(part.as_str())?;
-    let rows = number(rows)?;
-    if rows < 2 || rows > 292 {
+    let size = number(size)?;
+    if size < 2 || size > 292 {
         return None;
     }
     Some(Work {
         part,
-        rows,
-        columns: number(columns)?,
+        size,
+        count: number(count)?,
         times: number(times)?,
         seed: number(seed)?,
     })
@@ -43,6 +50,8 @@ pub fn read_work(words: &[String]) -> Option<Work>
 fn part_of(word: &str) -> Option<Part> {
     match word {
         "master" => Some(Part::Master),
+        "lines" => Some(Part::Lines),
+        "leaves" => Some(Part::Leaves),
         _ => None,
     }
 }

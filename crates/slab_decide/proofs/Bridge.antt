@@ -17,10 +17,10 @@ use Rattle.slab_decide.specs.Decided.{Decisions, IsAskOf}
 use Rattle.slab_decide.specs.Nodes.{first_node, second_node, relation_of}
 use Rattle.slab_decide.specs.Kept.{group_at, IsRecorded}
 
-low_choice : {X : Type 0} (x yard : ℕ) (p q : X) → x < yard → (if nat_lt x yard then p else q) ≡ p
+pub low_choice : {X : Type 0} (x yard : ℕ) (p q : X) → x < yard → (if nat_lt x yard then p else q) ≡ p
 low_choice x yard p q h = grind arith
 
-high_choice : {X : Type 0} (x yard : ℕ) (p q : X) → yard ≤ x → (if nat_lt x yard then p else q) ≡ q
+pub high_choice : {X : Type 0} (x yard : ℕ) (p q : X) → yard ≤ x → (if nat_lt x yard then p else q) ≡ q
 high_choice x yard p q h = grind arith
 
 pub group_at_slab : (yard : ℕ) (a : Assignment) (s : ℕ) → s < yard → group_at yard a s ≡ On s

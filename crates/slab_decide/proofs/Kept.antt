@@ -1,12 +1,10 @@
 -- What follows from decisions is what the relations say.
-use Rattle.std.proofs.Common.{◌≡◌, ◌≢◌, ℕ, ◌+◌, ◌<◌, ◌≤◌, Bool, true, false, not, List, [], ◌∷◌, ◌++◌, Contains, ◌&&◌, ◌-◌, reverse, length, get_or, refl, sym, ap, ap₂, ◌∙◌, subst, inl, inr, arith}
-use Rattle.std.specs.List.{AllByRecursion, list_all}
+use Rattle.std.proofs.Common.{◌≡◌, ◌≢◌, ℕ, ◌+◌, ◌<◌, ◌≤◌, Bool, true, false, not, List, [], ◌∷◌, ◌++◌, Contains, ◌-◌, reverse, length, get_or, refl, sym, ap, ap₂, ◌∙◌, subst, inl, inr, arith}
+use Rattle.std.specs.List.{AllByRecursion}
 use Rattle.std.proofs.lemmas.List.{reverse-append, reverse-reverse, length-reverse, get_or-reverse}
-use Rattle.std.proofs.lemmas.List.Folds.{list_all-append}
 use Rattle.std.proofs.lemmas.Bool.{false_from_ne_true, both_ways}
 use Rattle.mill_model.specs.declared.ask.Ask.{Ask}
-use Rattle.mill_model.specs.Columns.{Column}
-use Rattle.mill_model.specs.Decisions.{Decision, agrees, column_agrees}
+use Rattle.mill_model.specs.Decisions.{Decision, agrees}
 use Rattle.mill_model.specs.Assignments.{Group, same_group, Follows}
 use Rattle.mill_model.specs.Assignments.Group.{On}
 use Rattle.mill_model.proofs.Closing.{same_group-true, same_group_from}
@@ -173,17 +171,6 @@ kept_none v r orders yard none slabs count start is = record {
 -- what a read of the relations of an ask's nodes says
 pub said : (r : Relations) (yard other : ℕ) (ask : Ask) (x y : ℕ) (t : Relation) → yard ≡ other → x ≡ first_node yard ask → y ≡ second_node yard ask → t ≡ relation_at r x y → relation_at r (first_node other ask) (second_node other ask) ≡ t
 said r yard other ask x y t e f g h = sym (h ∙ ap₂ (relation_at r) (f ∙ ap (λ z. first_node z ask) e) (g ∙ ap (λ z. second_node z ask) e))
-
-list_all-reverse : {X : Type 0} (p : X → Bool) (xs : List X) → list_all p (reverse xs) ≡ list_all p xs
-list_all-reverse p [] = refl
-list_all-reverse p (x ∷ xs) = ap (list_all p) (reverse-append (x ∷ []) xs) ∙ list_all-append p (reverse xs) (x ∷ []) ∙ turned (list_all p (reverse xs)) (p x) (list_all p xs) (list_all-reverse p xs)
-  where
-    turned : (a b c : Bool) → a ≡ c → (a && (b && true)) ≡ (b && c)
-    turned a b c e = grind arith
-
--- agreement doesn't see the order of the decisions
-pub column_agrees-reverse : (c : Column) (items : List Decision) → column_agrees (reverse items) c ≡ list_all (agrees c) items
-column_agrees-reverse c items = list_all-reverse (agrees c) items
 
 Contains-reverse : (xs : List Decision) (d : Decision) → Contains xs d → Contains (reverse xs) d
 Contains-reverse xs d (k, h, e) = (

@@ -2,3 +2,4 @@ pub mod Bridge
 pub mod Kept
 pub mod Room
 pub mod FirstOpen
+pub mod Allowing

@@ -2,3 +2,4 @@ pub mod Decided
 pub mod Nodes
 pub mod Kept
 pub mod OpenAsks
+pub mod Whole

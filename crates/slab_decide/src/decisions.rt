@@ -7,7 +7,7 @@ ghost use Rattle.slab_decide.specs.Decided.{Decisions, IsAskOf, IsKindOf, AreDec
 
 use crate::Clash;
 use crate::asks::{add, nodes, relation_of, stands};
-use crate::column::agrees_with_all;
+use crate::column::{are_orders_whole, is_slab_whole};
 use crate::open_asks::{first_open_pair, first_open_put};
 use mill_model::{Ask, Kind};
 use slab_closure::{Closure, Relation};
@@ -153,6 +153,10 @@ impl Decisions {
         requires orders { Rises 0 self.now.orders orders.now }
         ensures { result ≡ column_agrees self.now.list (record { kind = kind; orders = orders.now }) }
     {
-        agrees_with_all(&self.list, kind, orders)
+        let count = self.yard as usize + self.orders as usize;
+        if !is_slab_whole(&self.relations, count, self.yard, kind, orders) {
+            return false;
+        }
+        are_orders_whole(&self.relations, count, self.yard, kind, orders)
     }
 }

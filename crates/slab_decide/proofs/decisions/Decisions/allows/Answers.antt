@@ -1,12 +1,41 @@
-use Rattle.std.proofs.Common.{ap, sym, ◌∙◌}
-use Rattle.std.specs.List.{list_all}
-use Rattle.mill_model.specs.Columns.{Column}
-use Rattle.mill_model.specs.Decisions.{agrees, column_agrees}
-use Rattle.slab_decide.specs.Decided.{Decisions}
-use Rattle.slab_decide.proofs.Kept.{column_agrees-reverse}
+use Rattle.std.proofs.Common.{◌≡◌, ℕ, ◌+◌, true, false, List, reverse, sym, subst, arith, rules}
+use Rattle.mill_model.specs.Columns.{Column, Rises}
+use Rattle.mill_model.specs.Decisions.{Decision, column_agrees}
+use Rattle.slab_decide.specs.Decided.{Decisions, IsKindOf}
+use Rattle.slab_decide.proofs.Allowing.{kind_node, orders_in, refused, answered}
 use Rattle.slab_decide.proofs.decisions.Decisions.allows.Goals as goal
+
+abbrev seen : ℕ → ℕ → List Decision → Decisions
+seen orders yard items = record { orders = orders; yard = yard; list = reverse items }
+
+pub is_slab_whole-requires : goal.is_slab_whole-requires
+is_slab_whole-requires c =
+    let v : Decisions = seen c.self.inside.orders c.self.inside.yard c.self.inside.list.items in
+    let kind : IsKindOf v c.args.kind = subst (λ (w : Decisions). IsKindOf w c.args.kind) (sym c.self.view_is) c.requires.kind in
+    let d = c.self.invariant.0.decisions in
+    record { count = c.self.invariant.0.count; limit = omega (arith, d.orders, d.yard); slab = kind_node v (c.self.inside.yard + c.self.inside.orders) c.args.kind (omega arith) kind }
+
+pub are_orders_whole-requires : goal.are_orders_whole-requires
+are_orders_whole-requires c =
+    let v : Decisions = seen c.self.inside.orders c.self.inside.yard c.self.inside.list.items in
+    let rises : Rises 0 v.orders c.args.orders.now = subst (λ (w : Decisions). Rises 0 w.orders c.args.orders.now) (sym c.self.view_is) c.requires.orders in
+    let d = c.self.invariant.0.decisions in
+    record { count = c.self.invariant.0.count; limit = omega (arith, d.orders, d.yard); orders = orders_in 0 v.orders v.yard c.args.orders.now rises }
+
+pub returns-then-not-is_slab_whole : goal.returns-then-not-is_slab_whole
+returns-then-not-is_slab_whole c =
+    let v : Decisions = seen c.self.inside.orders c.self.inside.yard c.self.inside.list.items in
+    let column : Column = record { kind = c.args.kind; orders = c.args.orders.now } in
+    let kind : IsKindOf v c.args.kind = subst (λ (w : Decisions). IsKindOf w c.args.kind) (sym c.self.view_is) c.requires.kind in
+    let rises : Rises 0 v.orders c.args.orders.now = subst (λ (w : Decisions). Rises 0 w.orders c.args.orders.now) (sym c.self.view_is) c.requires.orders in
+    let no : c.is_slab_whole.result ≡ false = search rules in
+    subst (λ (w : Decisions). false ≡ column_agrees w.list column) c.self.view_is (refused v c.self.inside.relations c.self.invariant.0 column kind rises c.is_slab_whole.result no c.is_slab_whole.ensures.1)
 
 pub returns : goal.returns
 returns c =
+    let v : Decisions = seen c.self.inside.orders c.self.inside.yard c.self.inside.list.items in
     let column : Column = record { kind = c.args.kind; orders = c.args.orders.now } in
-    c.agrees_with_all.ensures ∙ ap (list_all (agrees column)) c.deref.ensures.value ∙ sym (column_agrees-reverse column c.self.inside.list.items) ∙ ap (λ (v : Decisions). column_agrees v.list column) c.self.view_is
+    let kind : IsKindOf v c.args.kind = subst (λ (w : Decisions). IsKindOf w c.args.kind) (sym c.self.view_is) c.requires.kind in
+    let rises : Rises 0 v.orders c.args.orders.now = subst (λ (w : Decisions). Rises 0 w.orders c.args.orders.now) (sym c.self.view_is) c.requires.orders in
+    let slab_is : c.is_slab_whole.result ≡ true = search rules in
+    subst (λ (w : Decisions). c.are_orders_whole.result ≡ column_agrees w.list column) c.self.view_is (answered v c.self.inside.relations c.self.invariant.0 column kind rises c.are_orders_whole.result (c.is_slab_whole.ensures.0 slab_is) c.are_orders_whole.ensures.0 c.are_orders_whole.ensures.1)
