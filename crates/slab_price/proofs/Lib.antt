@@ -1,0 +1,6 @@
+pub mod Excesses
+pub mod Rests
+pub mod Colours
+pub mod Chosen
+pub mod Filling
+pub mod Columns
