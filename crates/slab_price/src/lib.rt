@@ -13,6 +13,3 @@ mod walk;
 
 pub use found::Found;
 pub use pricing::worst;
-
-#[cfg(test)]
-mod tests;
