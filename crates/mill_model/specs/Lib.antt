@@ -16,3 +16,4 @@ pub mod Judging
 pub mod ColourSet
 pub mod Starts
 pub mod Laws
+pub mod Groups

@@ -9,3 +9,4 @@ pub mod Gains
 pub mod Search
 pub mod Sizes
 pub mod Leaves
+pub mod Groupings
