@@ -1,3 +1,5 @@
 pub mod Excess
 pub mod Found
 pub mod Searches
+pub mod Gains
+pub mod Groupings
