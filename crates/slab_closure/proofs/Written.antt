@@ -5,11 +5,12 @@ use Rattle.slab_closure.specs.declared.relation.Relation.{Relation}
 use Rattle.slab_closure.specs.declared.relation.Relation.TheVariants.{Open}
 use Rattle.slab_closure.specs.Cells.{decided, cell, start_of}
 use Rattle.slab_closure.specs.Relations.{Relations, IsRelations, AreDecided, AreUndecided, IsClosed, relation_at, decided_table}
+use Rattle.slab_closure.specs.Sizes.{AreSizes}
 use Rattle.slab_closure.proofs.Closed.{decided_closed}
 use Rattle.slab_closure.proofs.Starts.{start_closed}
 
 -- a whole write through a slice of a vector
-pub written : (n : ℕ) (new items : List Relation) → length new ≡ n → take n (new ++ drop (length new) items) ≡ new
+pub written : {A : Type 0} (n : ℕ) (new items : List A) → length new ≡ n → take n (new ++ drop (length new) items) ≡ new
 written n new items e = take-append-le n new (drop (length new) items) (omega arith) ∙ take_all n new (omega arith)
 
 -- what `decide_cells` does to a cell, in rows and columns
@@ -109,3 +110,8 @@ fresh count slabs len old new items s l e f g h =
     let cells : (x y : ℕ) → x < count → y < count → cell (take len (new ++ drop (length new) items)) (x * count + y) ≡ start_of slabs x y =
     λ x y i j. ap (λ (cs : List Relation). cell cs (x * count + y)) whole ∙ started count slabs new (λ k b. h k (omega (arith, b, f, g))) x y i j in
     (cells, undecided_relations (record { count = count; slabs = slabs; cells = take len (new ++ drop (length new) items) }) s l (ap length whole ∙ e ∙ f ∙ g) cells)
+
+-- the sizes that a vector holds after a write of all, through slices of the sizes and of the cells
+pub sized : (count wide len : ℕ) (slice cells : List Relation) (new items : List ℕ) → wide ≡ count → slice ≡ cells → length new ≡ len → AreSizes slice wide new → AreSizes cells count (take len (new ++ drop (length new) items))
+sized count wide len slice cells new items e f l h =
+    subst (AreSizes cells count) (sym (written len new items l)) (subst (λ (n : ℕ). AreSizes cells n new) e (subst (λ (cs : List Relation). AreSizes cs wide new) f h))

@@ -1,3 +1,4 @@
 pub mod Cells
 pub mod Relations
 pub mod Labels
+pub mod Sizes

@@ -1,9 +1,11 @@
 ghost use Rattle.std.specs.Prelude.{ℕ, ◌≡◌, ◌+◌, ◌*◌, ◌<◌, ◌≤◌, length, IfOk};
 ghost use Rattle.slab_closure.specs.Cells.{cell, decided};
 ghost use Rattle.slab_closure.specs.Relations.{Relations, relation_at, AreDecided, IsClosed, IsRelations, AreUndecided};
+ghost use Rattle.slab_closure.specs.Sizes.{group_size};
 ghost use Rattle.slab_closure.specs.declared.relation.Relation.{Relation};
 
 use crate::relation::{Relation, copy_row, decide_cells, start};
+use crate::sizes::write_sizes;
 use std::alloc::{AllocError, Global};
 use std::marker::Model;
 
@@ -13,6 +15,7 @@ pub struct Closure {
     count: usize,
     slabs: usize,
     cells: Vec<Relation>,
+    sizes: Vec<u16>,
     first: Vec<Relation>,
     second: Vec<Relation>,
 }
@@ -20,12 +23,13 @@ pub struct Closure {
 impl Model for Closure {
     ghost use Rattle.std.specs.Prelude.{◌≡◌, length, vec_len};
     ghost use Rattle.slab_closure.specs.Relations.{Relations, IsRelations};
+    ghost use Rattle.slab_closure.specs.Sizes.{AreSizes};
 
     ghost Value = { Relations };
 
     ghost view = { λ c. record { count = c.count; slabs = c.slabs; cells = c.cells.items } };
 
-    ghost invariant = { λ c. IsRelations (record { count = c.count; slabs = c.slabs; cells = c.cells.items }) × (vec_len c.first ≡ c.count) × (vec_len c.second ≡ c.count) };
+    ghost invariant = { λ c. IsRelations (record { count = c.count; slabs = c.slabs; cells = c.cells.items }) × (vec_len c.sizes ≡ c.count) × AreSizes c.cells.items c.count c.sizes.items × (vec_len c.first ≡ c.count) × (vec_len c.second ≡ c.count) };
 }
 
 /// Makes the groups of two nodes one, or tells them apart. `first` and `second` are room for a row each.
@@ -65,12 +69,15 @@ impl Closure {
         let count = slabs + orders;
         let first = vec![in alloc; Relation::Open; count]?;
         let second = vec![in alloc; Relation::Open; count]?;
+        let mut sizes = vec![in alloc; 0; count]?;
         let mut cells = vec![in alloc; Relation::Open; count * count]?;
         start(&mut cells, count, slabs);
+        write_sizes(&mut sizes, &cells);
         Ok(Closure {
             count,
             slabs,
             cells,
+            sizes,
             first,
             second,
         })
@@ -84,6 +91,7 @@ impl Closure {
         ensures relations { IsRelations self.new }
     {
         start(&mut self.cells, self.count, self.slabs);
+        write_sizes(&mut self.sizes, &self.cells);
     }
 
     /// How two nodes stand to each other.
@@ -94,6 +102,14 @@ impl Closure {
         ensures relations { IsRelations self.now }
     {
         self.cells[x * self.count + y]
+    }
+
+    /// How many nodes lie in the group of a node, itself among them.
+    pub fn group_size(&self, x: usize) -> u16
+        requires { x < self.now.count }
+        ensures { result ≡ group_size self.now x }
+    {
+        self.sizes[x]
     }
 
     /// Decides of two nodes that are open whether their groups are one. It takes no memory.
@@ -112,5 +128,6 @@ impl Closure {
             b,
             yes,
         );
+        write_sizes(&mut self.sizes, &self.cells);
     }
 }

@@ -4,6 +4,7 @@
 
 mod closure;
 mod relation;
+mod sizes;
 
 pub use closure::Closure;
 pub use relation::Relation;

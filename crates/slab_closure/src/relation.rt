@@ -1,5 +1,5 @@
 ghost use Rattle.std.specs.Prelude.{ℕ, ◌≡◌, ◌+◌, ◌*◌, ◌/◌, ◌%◌, ◌<◌, ◌≤◌, length};
-ghost use Rattle.slab_closure.specs.Cells.{merged, separated, decided, combined_of, cell, start_of};
+ghost use Rattle.slab_closure.specs.Cells.{is_same, merged, separated, decided, combined_of, cell, start_of};
 
 /// Whether two nodes lie in one group, in two groups, or either may be.
 #[derive(Clone, Copy, PartialEq, Eq, Debug)]
@@ -7,6 +7,13 @@ pub enum Relation {
     Open,
     Same,
     Apart,
+}
+
+/// Whether two nodes that stand so to each other lie in one group.
+pub(crate) fn is_same(relation: Relation) -> bool
+    ensures { result ≡ is_same relation }
+{
+    relation == Relation::Same
 }
 
 /// The relation to a group that two groups make: apart where one of them is.
