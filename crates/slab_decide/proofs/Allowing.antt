@@ -16,14 +16,14 @@ use Rattle.slab_closure.specs.Relations.{Table, Relations, IsClosed, relation_at
 use Rattle.slab_decide.specs.Decided.{Decisions, IsAskOf, IsKindOf, AreConsistent}
 use Rattle.slab_decide.specs.Nodes.{first_node, second_node, relation_of}
 use Rattle.slab_decide.specs.Kept.{IsRecorded, IsKept}
-use Rattle.slab_decide.specs.Whole.{has_node, suits, IsRowWhole, IsWhole, IsSlabWhole, AreOrdersWhole, IsSlabNode}
+use Rattle.slab_decide.specs.Whole.{has_node, suits, IsRowWhole, IsWhole, IsSlabWhole, AreOrdersWhole, IsSlabNode, AreNodes}
 use Rattle.slab_decide.proofs.Bridge.{low_choice, high_choice, first_in, second_in}
 use Rattle.slab_decide.proofs.Kept.{kept_follows, kept_consistent}
 
-order_node : (yard : ℕ) (c : Column) (o : ℕ) → has_node yard c (yard + o) ≡ has c.orders o
+pub order_node : (yard : ℕ) (c : Column) (o : ℕ) → has_node yard c (yard + o) ≡ has c.orders o
 order_node yard c o = high_choice (yard + o) yard (is_old (yard + o) c.kind) (has c.orders (yard + o - yard)) (omega arith) ∙ ap (has c.orders) (omega arith)
 
-slab_node : (yard : ℕ) (c : Column) (s : ℕ) → s < yard → has_node yard c s ≡ is_old s c.kind
+pub slab_node : (yard : ℕ) (c : Column) (s : ℕ) → s < yard → has_node yard c s ≡ is_old s c.kind
 slab_node yard c s h = low_choice s yard (is_old s c.kind) (has c.orders (s - yard)) h
 
 first_by_node : (v : Decisions) (c : Column) (ask : Ask) → IsAskOf v ask → first_test ask c ≡ has_node v.yard c (first_node v.yard ask)
@@ -58,18 +58,18 @@ not_both true true g e h = cc
 not_both true false g e h = cc
 not_both false s g e h = cc
 
-suits_same : (t : Relation) (inside : Bool) → suits t inside ≡ true → t ≡ Same → inside ≡ true
+pub suits_same : (t : Relation) (inside : Bool) → suits t inside ≡ true → t ≡ Same → inside ≡ true
 suits_same Open inside e f = cc
 suits_same Same inside e f = e
 suits_same Apart inside e f = cc
 
-suits_apart : (t : Relation) (inside : Bool) → suits t inside ≡ true → t ≡ Apart → inside ≡ true → ⊥
+pub suits_apart : (t : Relation) (inside : Bool) → suits t inside ≡ true → t ≡ Apart → inside ≡ true → ⊥
 suits_apart Open inside e f g = cc
 suits_apart Same inside e f g = cc
 suits_apart Apart true e f g = cc
 suits_apart Apart false e f g = cc
 
-suits_from : (t : Relation) (inside : Bool) → (t ≡ Same → inside ≡ true) → (t ≡ Apart → inside ≡ true → ⊥) → suits t inside ≡ true
+pub suits_from : (t : Relation) (inside : Bool) → (t ≡ Same → inside ≡ true) → (t ≡ Apart → inside ≡ true → ⊥) → suits t inside ≡ true
 suits_from Open inside f g = refl
 suits_from Same inside f g = f refl
 suits_from Apart true f g = absurd (g refl refl)
@@ -175,7 +175,7 @@ module _ (v : Decisions) (r : Relations) (kept : IsKept v r) (c : Column) where
       (λ apart. apart_at column x y i j (nodes_of x y i j) apart inside)
 
 -- an order of a list has a place in it
-has_at : (xs : List ℕ) (o : ℕ) → has xs o ≡ true → (k : ℕ) × (k < length xs) × (slice_index xs k ≡ o)
+pub has_at : (xs : List ℕ) (o : ℕ) → has xs o ≡ true → (k : ℕ) × (k < length xs) × (slice_index xs k ≡ o)
 has_at [] o e = cc
 has_at (x ∷ xs) o e = elim (or_cases (eqb x o) (has xs o) e) [
   | inl q ↦ (0, omega arith, eqb-true x o q)
@@ -220,14 +220,26 @@ orders_in low high yard (x ∷ xs) h zero d l = omega (arith, h.1)
 orders_in low high yard (x ∷ xs) h (suc k) d l = orders_in (x + 1) high yard xs h.2 k d (omega (arith, l))
 
 module _ (v : Decisions) (r : Relations) (kept : IsKept v r) (c : Column) (kind : IsKindOf v c.kind) (rises : Rises 0 v.orders c.orders) where
-  whole : column_agrees v.list c ≡ true → IsWhole (v.yard + v.orders) (relation_at r) (has_node v.yard c)
-  whole column = subst (λ n. IsWhole n (relation_at r) (has_node v.yard c)) kept.count (agrees_whole v r kept c column)
+  within : v.yard ≤ r.count
+  within = omega (arith, kept.count)
 
-  pub refused : (b : Bool) → b ≡ false → (IsSlabWhole (v.yard + v.orders) (relation_at r) (has_node v.yard c) c.kind → b ≡ true) → false ≡ column_agrees v.list c
-  refused b e f = sym (false_from_ne_true (column_agrees v.list c) (λ t. both_ways b e (f (slab_from_whole (v.yard + v.orders) v.yard (relation_at r) c (omega arith) (kind_node v v.yard c.kind (omega arith) kind) (whole t)))))
+  -- the column's nodes are nodes
+  pub nodes : AreNodes r.count v.yard c.kind c.orders
+  nodes = record {
+    within = within;
+    limit = omega (arith, kept.count, kept.decisions.orders, kept.decisions.yard);
+    slab = kind_node v v.yard c.kind (omega arith) kind;
+    rises = subst (λ n. Rises 0 n c.orders) (omega (arith, kept.count)) rises;
+  }
 
-  pub answered : (b : Bool) → IsSlabWhole (v.yard + v.orders) (relation_at r) (has_node v.yard c) c.kind
-      → (b ≡ true → AreOrdersWhole (v.yard + v.orders) (relation_at r) (has_node v.yard c) v.yard c.orders)
-      → (AreOrdersWhole (v.yard + v.orders) (relation_at r) (has_node v.yard c) v.yard c.orders → b ≡ true) → b ≡ column_agrees v.list c
-  answered true slab f g = sym (whole_agrees v r kept c (subst (λ n. IsWhole n (relation_at r) (has_node v.yard c)) (sym kept.count) (whole_from_rows (v.yard + v.orders) v.yard (relation_at r) c slab (f refl))))
-  answered false slab f g = sym (false_from_ne_true (column_agrees v.list c) (λ t. both_ways false refl (g (orders_from_whole (v.yard + v.orders) v.yard (relation_at r) c (orders_in 0 v.orders v.yard c.orders rises) (whole t)))))
+  in_range : All (λ o. v.yard + o < r.count) c.orders
+  in_range = subst (λ n. All (λ o. v.yard + o < n) c.orders) (sym kept.count) (orders_in 0 v.orders v.yard c.orders rises)
+
+  pub refused : (b : Bool) → b ≡ false → (IsSlabWhole r.count (relation_at r) (has_node v.yard c) c.kind → b ≡ true) → false ≡ column_agrees v.list c
+  refused b e f = sym (false_from_ne_true (column_agrees v.list c) (λ t. both_ways b e (f (slab_from_whole r.count v.yard (relation_at r) c within (kind_node v v.yard c.kind (omega arith) kind) (agrees_whole v r kept c t)))))
+
+  pub answered : (b : Bool) → IsSlabWhole r.count (relation_at r) (has_node v.yard c) c.kind
+      → (b ≡ true → AreOrdersWhole r.count (relation_at r) (has_node v.yard c) v.yard c.orders)
+      → (AreOrdersWhole r.count (relation_at r) (has_node v.yard c) v.yard c.orders → b ≡ true) → b ≡ column_agrees v.list c
+  answered true slab f g = sym (whole_agrees v r kept c (whole_from_rows r.count v.yard (relation_at r) c slab (f refl)))
+  answered false slab f g = sym (false_from_ne_true (column_agrees v.list c) (λ t. both_ways false refl (g (orders_from_whole r.count v.yard (relation_at r) c in_range (agrees_whole v r kept c t)))))

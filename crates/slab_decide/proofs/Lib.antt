@@ -3,3 +3,4 @@ pub mod Kept
 pub mod Room
 pub mod FirstOpen
 pub mod Allowing
+pub mod Counted

@@ -1,111 +1,102 @@
-ghost use Rattle.std.specs.Prelude.{◌≡◌, ◌+◌, ◌<◌, ◌≤◌, ◌↔◌, IsTrue, All};
-ghost use Rattle.mill_model.specs.Columns.{has, is_old};
+ghost use Rattle.std.specs.Prelude.{◌≡◌, ◌+◌, ◌<◌, ◌≤◌, ◌↔◌, IsTrue, All, length};
 ghost use Rattle.slab_closure.specs.Relations.{relation_at};
-ghost use Rattle.slab_decide.specs.Whole.{has_node, suits, IsRowWhole, IsSlabWhole, AreOrdersWhole, IsSlabNode};
+ghost use Rattle.slab_decide.specs.Whole.{has_node, IsRowWhole, IsSlabWhole, AreOrdersWhole, AreNodes, IsSlabBeside, AreOrdersBeside, slab_in_group, orders_in_group, IsSlabNode};
 
 use mill_model::Kind;
 use slab_closure::{Closure, Relation};
 
-fn has_order(orders: &[u16], order: u16) -> bool
-    ensures { result ≡ has orders.now order }
-{
-    for &other in orders {
-        if other == order {
-            return true;
-        }
-    }
-    false
-}
-
-fn is_surplus_slab(kind: Kind, slab: u16) -> bool
-    ensures { result ≡ is_old slab kind }
+/// Whether the column's surplus slab, where it has one, isn't apart from a node.
+fn is_slab_beside(relations: &Closure, kind: Kind, x: usize) -> bool
+    requires x { x < relations.now.count }
+    requires slab { IsSlabNode relations.now.count kind }
+    ensures { IsTrue result ↔ IsSlabBeside (relation_at relations.now) kind x }
 {
     match kind {
-        Kind::New(_) => false,
-        Kind::Old(other) => other == slab,
+        Kind::New(_) => true,
+        Kind::Old(s) => relations.at(x, s as usize) != Relation::Apart,
     }
 }
 
-/// Whether a node is the column's surplus slab or one of its orders.
-fn has_node(kind: Kind, orders: &[u16], yard: u16, node: usize) -> bool
-    requires { node < 290 }
-    ensures { result ≡ has_node yard (record { kind = kind; orders = orders.now }) node }
+/// Whether none of the column's orders is apart from a node.
+fn are_orders_beside(relations: &Closure, yard: u16, orders: &[u16], x: usize) -> bool
+    requires limit { relations.now.count ≤ 290 }
+    requires x { x < relations.now.count }
+    requires orders { All (λ o. yard + o < relations.now.count) orders.now }
+    ensures { IsTrue result ↔ AreOrdersBeside (relation_at relations.now) yard orders.now x }
 {
-    let yard = yard as usize;
-    if node < yard {
-        return is_surplus_slab(kind, node as u16);
-    }
-    has_order(orders, (node - yard) as u16)
-}
-
-fn suits(relation: Relation, inside: bool) -> bool
-    ensures { result ≡ suits relation inside }
-{
-    match relation {
-        Relation::Open => true,
-        Relation::Same => inside,
-        Relation::Apart => !inside,
-    }
-}
-
-/// Whether each node suits a node of the column: one of its group is in the column, and one apart from it is not.
-fn is_row_whole(
-    relations: &Closure,
-    count: usize,
-    yard: u16,
-    kind: Kind,
-    orders: &[u16],
-    x: usize,
-) -> bool
-    requires count { relations.now.count ≡ count }
-    requires limit { count ≤ 290 }
-    requires x { x < count }
-    ensures { IsTrue result ↔ IsRowWhole count (relation_at relations.now) (has_node yard (record { kind = kind; orders = orders.now })) x }
-{
-    for y in 0..count {
-        if !suits(relations.at(x, y), has_node(kind, orders, yard, y)) {
+    for &order in orders {
+        if relations.at(x, yard as usize + order as usize) == Relation::Apart {
             return false;
         }
     }
     true
 }
 
+/// Whether the column's surplus slab lies in the group of a node, as a number.
+fn slab_in_group(relations: &Closure, kind: Kind, x: usize) -> usize
+    requires x { x < relations.now.count }
+    requires slab { IsSlabNode relations.now.count kind }
+    ensures count { result ≡ slab_in_group (relation_at relations.now) kind x }
+    ensures few { result ≤ 1 }
+{
+    match kind {
+        Kind::Old(s) if relations.at(x, s as usize) == Relation::Same => 1,
+        _ => 0,
+    }
+}
+
+/// How many of the column's orders lie in the group of a node.
+fn orders_in_group(relations: &Closure, yard: u16, orders: &[u16], x: usize) -> usize
+    requires limit { relations.now.count ≤ 290 }
+    requires x { x < relations.now.count }
+    requires orders { All (λ o. yard + o < relations.now.count) orders.now }
+    ensures count { result ≡ orders_in_group (relation_at relations.now) yard orders.now x }
+    ensures few { result ≤ length orders.now }
+{
+    let mut found = 0;
+    for &order in orders {
+        if relations.at(x, yard as usize + order as usize) == Relation::Same {
+            found += 1;
+        }
+    }
+    found
+}
+
+/// Whether the column has the whole group of a node, and no node that is apart from it.
+fn is_row_whole(relations: &Closure, yard: u16, kind: Kind, orders: &[u16], x: usize) -> bool
+    requires nodes { AreNodes relations.now.count yard kind orders.now }
+    requires x { x < relations.now.count }
+    ensures { IsTrue result ↔ IsRowWhole relations.now.count (relation_at relations.now) (has_node yard (record { kind = kind; orders = orders.now })) x }
+{
+    if !is_slab_beside(relations, kind, x) {
+        return false;
+    }
+    if !are_orders_beside(relations, yard, orders, x) {
+        return false;
+    }
+    let found = slab_in_group(relations, kind, x) + orders_in_group(relations, yard, orders, x);
+    found == usize::from(relations.group_size(x))
+}
+
 /// The same of the column's surplus slab, where it has one.
-pub(crate) fn is_slab_whole(
-    relations: &Closure,
-    count: usize,
-    yard: u16,
-    kind: Kind,
-    orders: &[u16],
-) -> bool
-    requires count { relations.now.count ≡ count }
-    requires limit { count ≤ 290 }
-    requires slab { IsSlabNode count kind }
-    ensures { IsTrue result ↔ IsSlabWhole count (relation_at relations.now) (has_node yard (record { kind = kind; orders = orders.now })) kind }
+pub(crate) fn is_slab_whole(relations: &Closure, yard: u16, kind: Kind, orders: &[u16]) -> bool
+    requires { AreNodes relations.now.count yard kind orders.now }
+    ensures { IsTrue result ↔ IsSlabWhole relations.now.count (relation_at relations.now) (has_node yard (record { kind = kind; orders = orders.now })) kind }
 {
     match kind {
         Kind::New(_) => true,
-        Kind::Old(s) => is_row_whole(relations, count, yard, kind, orders, s as usize),
+        Kind::Old(s) => is_row_whole(relations, yard, kind, orders, s as usize),
     }
 }
 
 /// The same of each order of the column.
-pub(crate) fn are_orders_whole(
-    relations: &Closure,
-    count: usize,
-    yard: u16,
-    kind: Kind,
-    orders: &[u16],
-) -> bool
-    requires count { relations.now.count ≡ count }
-    requires limit { count ≤ 290 }
-    requires orders { All (λ o. yard + o < count) orders.now }
-    ensures { IsTrue result ↔ AreOrdersWhole count (relation_at relations.now) (has_node yard (record { kind = kind; orders = orders.now })) yard orders.now }
+pub(crate) fn are_orders_whole(relations: &Closure, yard: u16, kind: Kind, orders: &[u16]) -> bool
+    requires { AreNodes relations.now.count yard kind orders.now }
+    ensures { IsTrue result ↔ AreOrdersWhole relations.now.count (relation_at relations.now) (has_node yard (record { kind = kind; orders = orders.now })) yard orders.now }
 {
     for &order in orders {
         if !is_row_whole(
             relations,
-            count,
             yard,
             kind,
             orders,

@@ -153,10 +153,9 @@ impl Decisions {
         requires orders { Rises 0 self.now.orders orders.now }
         ensures { result ≡ column_agrees self.now.list (record { kind = kind; orders = orders.now }) }
     {
-        let count = self.yard as usize + self.orders as usize;
-        if !is_slab_whole(&self.relations, count, self.yard, kind, orders) {
+        if !is_slab_whole(&self.relations, self.yard, kind, orders) {
             return false;
         }
-        are_orders_whole(&self.relations, count, self.yard, kind, orders)
+        are_orders_whole(&self.relations, self.yard, kind, orders)
     }
 }

@@ -12,7 +12,7 @@ invariant_of-result c = (
   (both c).1,
   c.in_ok-sizes.ensures.len,
   sized (c.args.slabs + c.args.orders) (length c.deref_mut-2.result.now) c.in_ok-sizes.sizes.len c.deref.result.now _ c.write_sizes.new.sizes c.in_ok-sizes.sizes.items
-  (c.deref_mut-2.ensures.len ∙ c.in_ok-sizes.ensures.len) c.deref.ensures.value (c.write_sizes.auto.sizes ∙ c.deref_mut-2.ensures.len) c.write_sizes.ensures,
+      (c.deref_mut-2.ensures.len ∙ c.in_ok-sizes.ensures.len) c.deref.ensures.value (c.write_sizes.auto.sizes ∙ c.deref_mut-2.ensures.len) c.write_sizes.ensures,
   c.in_ok-first.ensures.len,
   c.in_ok-second.ensures.len,
 )

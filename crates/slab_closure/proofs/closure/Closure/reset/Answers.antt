@@ -12,7 +12,7 @@ invariant_of-self c = (
   (both c).1,
   c.self.invariant.1,
   sized c.self.inside.count (length c.deref_mut-2.result.now) c.self.inside.sizes.len c.deref.result.now _ c.write_sizes.new.sizes c.self.inside.sizes.items
-  (c.deref_mut-2.ensures.len ∙ c.self.invariant.1) c.deref.ensures.value (c.write_sizes.auto.sizes ∙ c.deref_mut-2.ensures.len) c.write_sizes.ensures,
+      (c.deref_mut-2.ensures.len ∙ c.self.invariant.1) c.deref.ensures.value (c.write_sizes.auto.sizes ∙ c.deref_mut-2.ensures.len) c.write_sizes.ensures,
   c.self.invariant.3,
   c.self.invariant.4,
 )

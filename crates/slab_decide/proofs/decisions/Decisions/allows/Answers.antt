@@ -2,7 +2,7 @@ use Rattle.std.proofs.Common.{◌≡◌, ℕ, ◌+◌, true, false, List, revers
 use Rattle.mill_model.specs.Columns.{Column, Rises}
 use Rattle.mill_model.specs.Decisions.{Decision, column_agrees}
 use Rattle.slab_decide.specs.Decided.{Decisions, IsKindOf}
-use Rattle.slab_decide.proofs.Allowing.{kind_node, orders_in, refused, answered}
+use Rattle.slab_decide.proofs.Allowing.{nodes, refused, answered}
 use Rattle.slab_decide.proofs.decisions.Decisions.allows.Goals as goal
 
 abbrev seen : ℕ → ℕ → List Decision → Decisions
@@ -12,15 +12,15 @@ pub is_slab_whole-requires : goal.is_slab_whole-requires
 is_slab_whole-requires c =
     let v : Decisions = seen c.self.inside.orders c.self.inside.yard c.self.inside.list.items in
     let kind : IsKindOf v c.args.kind = subst (λ (w : Decisions). IsKindOf w c.args.kind) (sym c.self.view_is) c.requires.kind in
-    let d = c.self.invariant.0.decisions in
-    record { count = c.self.invariant.0.count; limit = omega (arith, d.orders, d.yard); slab = kind_node v (c.self.inside.yard + c.self.inside.orders) c.args.kind (omega arith) kind }
+    let rises : Rises 0 v.orders c.args.orders.now = subst (λ (w : Decisions). Rises 0 w.orders c.args.orders.now) (sym c.self.view_is) c.requires.orders in
+    nodes v c.self.inside.relations c.self.invariant.0 (record { kind = c.args.kind; orders = c.args.orders.now }) kind rises
 
 pub are_orders_whole-requires : goal.are_orders_whole-requires
 are_orders_whole-requires c =
     let v : Decisions = seen c.self.inside.orders c.self.inside.yard c.self.inside.list.items in
+    let kind : IsKindOf v c.args.kind = subst (λ (w : Decisions). IsKindOf w c.args.kind) (sym c.self.view_is) c.requires.kind in
     let rises : Rises 0 v.orders c.args.orders.now = subst (λ (w : Decisions). Rises 0 w.orders c.args.orders.now) (sym c.self.view_is) c.requires.orders in
-    let d = c.self.invariant.0.decisions in
-    record { count = c.self.invariant.0.count; limit = omega (arith, d.orders, d.yard); orders = orders_in 0 v.orders v.yard c.args.orders.now rises }
+    nodes v c.self.inside.relations c.self.invariant.0 (record { kind = c.args.kind; orders = c.args.orders.now }) kind rises
 
 pub returns-then-not-is_slab_whole : goal.returns-then-not-is_slab_whole
 returns-then-not-is_slab_whole c =
