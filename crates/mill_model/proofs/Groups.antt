@@ -283,9 +283,9 @@ heads_renamed decisions heads gone kept are le inside own alike = record { befor
         let lower : head_of heads o < length heads = omega (arith, are.before o l) in
         subst (λ z. head_of (map (λ h. cond (eqb h gone) kept h) heads) z ≡ z) (sym (at o l))
         (
-          cond_both (eqb (head_of heads o) gone) kept (head_of heads o) (λ z. head_of (map (λ h. cond (eqb h gone) kept h) heads) z ≡ z)
-            (λ _. at kept inside ∙ ap (λ z. cond (eqb z gone) kept z) own ∙ kept_stays)
-            (λ e. at (head_of heads o) lower ∙ ap (λ z. cond (eqb z gone) kept z) (are.fixed o l) ∙ cond-false (eqb (head_of heads o) gone) kept (head_of heads o) e)
+        cond_both (eqb (head_of heads o) gone) kept (head_of heads o) (λ z. head_of (map (λ h. cond (eqb h gone) kept h) heads) z ≡ z)
+        (λ _. at kept inside ∙ ap (λ z. cond (eqb z gone) kept z) own ∙ kept_stays)
+        (λ e. at (head_of heads o) lower ∙ ap (λ z. cond (eqb z gone) kept z) (are.fixed o l) ∙ cond-false (eqb (head_of heads o) gone) kept (head_of heads o) e)
         )
 
     joined : (c : Column) → column_agrees decisions c ≡ true → (o : ℕ) → o < length (map (λ h. cond (eqb h gone) kept h) heads) → has c.orders o ≡ has c.orders (head_of (map (λ h. cond (eqb h gone) kept h) heads) o)

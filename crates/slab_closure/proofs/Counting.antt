@@ -1,5 +1,5 @@
 -- Counting the numbers that pass a test.
-use Rattle.std.proofs.Common.{◌≡◌, ℕ, zero, suc, ◌+◌, ◌<◌, ◌≤◌, Bool, true, false, cond, ap, sym, refl, ◌∙◌, arith}
+use Rattle.std.proofs.Common.{◌≡◌, ℕ, zero, suc, ◌+◌, ◌≤◌, Bool, true, false, cond, ap, arith}
 use Rattle.slab_closure.specs.Cells.{is_same}
 use Rattle.slab_closure.specs.Relations.{Table}
 use Rattle.slab_closure.specs.Sizes.{count_from, size_in}

@@ -1,5 +1,5 @@
 -- How many nodes a group has.
-use Rattle.std.specs.Prelude.{◌≡◌, ℕ, zero, suc, ◌+◌, ◌*◌, ◌<◌, Bool, cond, List, length, slice_index_or}
+use Rattle.std.specs.Prelude.{◌≡◌, ℕ, zero, suc, ◌+◌, ◌*◌, ◌<◌, Bool, cond, List, slice_index_or}
 use Rattle.slab_closure.specs.declared.relation.Relation.{Relation}
 use Rattle.slab_closure.specs.Cells.{is_same, cell}
 use Rattle.slab_closure.specs.Relations.{Table, Relations, relation_at}

@@ -1,10 +1,10 @@
 -- A column has the whole group of a node exactly where as many of its nodes lie in that group as the group has.
-use Rattle.std.proofs.Common.{◌≡◌, ◌≢◌, ℕ, zero, suc, ◌+◌, ◌-◌, ◌<◌, ◌≤◌, Bool, true, false, cond, not, ◌&&◌, eqb, List, [], ◌∷◌, refl, sym, ap, ap₂, ◌∙◌, subst, inl, inr, arith, length, get_or, ◌||◌}
+use Rattle.std.proofs.Common.{◌≡◌, ℕ, zero, suc, ◌+◌, ◌-◌, ◌<◌, ◌≤◌, Bool, true, false, ◌&&◌, eqb, List, [], ◌∷◌, refl, sym, ap, ◌∙◌, subst, inl, inr, arith, length, get_or, ◌||◌}
 use Rattle.std.specs.Prelude.{All, slice_index}
 use Rattle.std.specs.List.{count_by}
 use Rattle.std.proofs.lemmas.List.Sums.{sum_by-cons}
 use Rattle.std.proofs.lemmas.List.{get_or_default}
-use Rattle.std.proofs.lemmas.Bool.{cases_eq, cases_lt, cases_Bool, both_ways, ne_eqb, eqb-true, eq-eqb, or_cases, or_left, or_right}
+use Rattle.std.proofs.lemmas.Bool.{cases_eq, cases_lt, both_ways, ne_eqb, eqb-true, eq-eqb}
 use Rattle.mill_model.specs.declared.kind.Kind.{Kind}
 use Rattle.mill_model.specs.declared.kind.Kind.TheVariants.{New, Old}
 use Rattle.mill_model.specs.Columns.{Column, has, is_old, Rises}
@@ -14,9 +14,9 @@ use Rattle.slab_closure.specs.Cells.{is_same}
 use Rattle.slab_closure.specs.Relations.{Table}
 use Rattle.slab_closure.specs.Sizes.{count_from, size_in}
 use Rattle.slab_closure.proofs.Counting.{one, one_at_most}
-use Rattle.slab_decide.specs.Whole.{has_node, suits, IsRowWhole, IsSlabNode, AreNodes, IsSlabBeside, AreOrdersBeside, slab_in_group, orders_in_group}
+use Rattle.slab_decide.specs.Whole.{has_node, IsRowWhole, IsSlabNode, AreNodes, IsSlabBeside, AreOrdersBeside, slab_in_group, orders_in_group}
 use Rattle.slab_decide.proofs.Allowing.{order_node, slab_node, suits_same, suits_apart, suits_from, has_at, at_has}
-use Rattle.slab_decide.proofs.Bridge.{low_choice, high_choice}
+use Rattle.slab_decide.proofs.Bridge.{high_choice}
 
 -- tests that answer alike count alike
 count_same : (f g : ℕ → Bool) (low k : ℕ) → ((y : ℕ) → low ≤ y → y < low + k → f y ≡ g y) → count_from f low k ≡ count_from g low k

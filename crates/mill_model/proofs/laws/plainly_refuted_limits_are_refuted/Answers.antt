@@ -3,8 +3,8 @@ use Rattle.std.specs.Prelude.{IsSomeAnd}
 use Rattle.mill_model.specs.declared.limits.Limits.{Limits}
 use Rattle.mill_model.specs.Mill.{Mill, IsInLimits}
 use Rattle.mill_model.specs.Decisions.{Decision}
-use Rattle.mill_model.specs.Plain.{IsPlainlyRefuted, loss_prices, count_prices, weight_prices, greatest_size, total_weight}
-use Rattle.mill_model.specs.Prices.{Prices, Refutes}
+use Rattle.mill_model.specs.Plain.{loss_prices, count_prices, weight_prices, greatest_size, total_weight}
+use Rattle.mill_model.specs.Prices.{Refutes}
 use Rattle.mill_model.proofs.PlainPrices.{loss_refutes, count_refutes, weight_refutes}
 use Rattle.mill_model.proofs.laws.plainly_refuted_limits_are_refuted.Goals as goal
 

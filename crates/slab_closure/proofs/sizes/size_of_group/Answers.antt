@@ -1,4 +1,4 @@
-use Rattle.std.proofs.Common.{rules, ℕ, ◌≡◌, ◌+◌, ◌*◌, ◌<◌, ◌≤◌, ap, ◌∙◌, sym, true, false, arith}
+use Rattle.std.proofs.Common.{ℕ, ◌≡◌, ◌+◌, ◌*◌, ap, ◌∙◌, sym, arith}
 use Rattle.slab_closure.specs.Cells.{cell, is_same}
 use Rattle.slab_closure.specs.Relations.{Table}
 use Rattle.slab_closure.proofs.Counting.{size_more, one}

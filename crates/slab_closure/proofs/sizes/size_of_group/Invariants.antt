@@ -1,4 +1,4 @@
-use Rattle.std.proofs.Common.{ℕ, ◌≡◌, ◌+◌, ◌*◌, ◌<◌, ◌≤◌, length, ◌-◌}
+use Rattle.std.proofs.Common.{ℕ, ◌≡◌, ◌+◌, ◌*◌, ◌≤◌}
 use Rattle.slab_closure.specs.Cells.{cell}
 use Rattle.slab_closure.specs.Sizes.{size_in}
 use Rattle.slab_closure.proofs.sizes.size_of_group.Given as goal

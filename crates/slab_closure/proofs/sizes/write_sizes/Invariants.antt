@@ -1,4 +1,4 @@
-use Rattle.std.proofs.Common.{ℕ, ◌≡◌, ◌+◌, ◌*◌, ◌<◌, ◌≤◌, length, get_or}
+use Rattle.std.proofs.Common.{ℕ, ◌≡◌, ◌+◌, ◌*◌, ◌<◌, get_or}
 use Rattle.slab_closure.specs.Cells.{cell}
 use Rattle.slab_closure.specs.Sizes.{size_in}
 use Rattle.slab_closure.proofs.sizes.write_sizes.Given as goal

@@ -1,4 +1,4 @@
-use Rattle.std.proofs.Common.{◌≡◌, ◌≢◌, ◌+◌, ◌<◌, ℕ, get_or}
+use Rattle.std.proofs.Common.{◌≢◌, ◌+◌, ◌<◌, ℕ, get_or}
 use Rattle.slab_closure.specs.declared.relation.Relation.TheVariants.{Apart}
 use Rattle.slab_closure.specs.Relations.{relation_at}
 use Rattle.slab_decide.proofs.column.are_orders_beside.Given as goal

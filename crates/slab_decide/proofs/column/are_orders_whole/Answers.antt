@@ -1,4 +1,3 @@
-use Rattle.std.proofs.Common.{arith}
 use Rattle.slab_closure.specs.Relations.{relation_at}
 use Rattle.slab_decide.proofs.Counted.{orders_in_range}
 use Rattle.slab_decide.proofs.column.are_orders_whole.Goals as goal

@@ -1,8 +1,8 @@
-use Rattle.std.proofs.Common.{rules, ◌≡◌, ◌+◌, ℕ, true, false, nat_eq, IsTrue, arith, ◌∙◌, sym}
+use Rattle.std.proofs.Common.{rules, ◌≡◌, ◌+◌, true, arith}
 use Rattle.slab_closure.specs.Relations.{relation_at}
 use Rattle.slab_closure.specs.Sizes.{size_in}
 use Rattle.slab_decide.specs.Whole.{slab_in_group, orders_in_group}
-use Rattle.slab_decide.proofs.Counted.{orders_in_range, row_whole, whole_slab, whole_orders, whole_size}
+use Rattle.slab_decide.proofs.Counted.{orders_in_range, row_whole, whole_orders, whole_size}
 use Rattle.slab_decide.proofs.column.is_row_whole.Goals as goal
 
 pub are_orders_beside-requires-clause-orders : goal.are_orders_beside-requires-clause-orders
