@@ -4,3 +4,4 @@ pub mod Colours
 pub mod Chosen
 pub mod Filling
 pub mod Columns
+pub mod Groupings

@@ -4,6 +4,7 @@
 mod best;
 mod bounds;
 mod found;
+mod groups;
 mod pairs;
 mod pricing;
 mod question;
