@@ -1,1 +1,1 @@
-pub mod LeastSizes
+pub mod Tables

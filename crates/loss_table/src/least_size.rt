@@ -1,5 +1,5 @@
 ghost use Rattle.std.specs.Prelude.{List, ℕ, [], ◌∷◌, ◌++◌};
-ghost use Rattle.loss_table.specs.LeastSizes.{IsAnswer};
+ghost use Rattle.mill_model.specs.LeastSizes.{IsAnswer};
 
 /// The lesser of the least size of some sizes and one more size, of those that are at least the load.
 fn lesser(found: Option<u16>, size: u16, load: u32) -> Option<u16>

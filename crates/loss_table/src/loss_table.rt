@@ -1,5 +1,6 @@
 ghost use Rattle.std.specs.Prelude.{◌≡◌, ◌<◌, All, IfOk, IfSome, IfNone, OnOk};
-ghost use Rattle.loss_table.specs.LeastSizes.{IsLeastSize, IsTable};
+ghost use Rattle.mill_model.specs.LeastSizes.{IsLeastSize};
+ghost use Rattle.loss_table.specs.Tables.{IsTable};
 
 use crate::least_size::least_size;
 use mill_model::Mill;
@@ -16,7 +17,7 @@ pub struct LossTable {
 
 impl Model for LossTable {
     ghost use Rattle.std.specs.Prelude.{ℕ, List};
-    ghost use Rattle.loss_table.specs.LeastSizes.{IsTable};
+    ghost use Rattle.loss_table.specs.Tables.{IsTable};
 
     ghost Value = { List ℕ };
 

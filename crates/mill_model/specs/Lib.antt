@@ -17,3 +17,6 @@ pub mod ColourSet
 pub mod Starts
 pub mod Laws
 pub mod Groups
+pub mod LeastSizes
+pub mod Gains
+pub mod Groupings

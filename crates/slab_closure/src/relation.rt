@@ -4,8 +4,11 @@ ghost use Rattle.slab_closure.specs.Cells.{is_same, merged, separated, decided, 
 /// Whether two nodes lie in one group, in two groups, or either may be.
 #[derive(Clone, Copy, PartialEq, Eq, Debug)]
 pub enum Relation {
+    /// Either may be.
     Open,
+    /// They lie in one group.
     Same,
+    /// They lie in two groups.
     Apart,
 }
 

@@ -20,16 +20,21 @@ fn mill_of_two_orders(alloc: Global) -> Result<Mill, AllocError>
     Ok(Mill::new(sizes, 1, orders))
 }
 
-/// The numbers of three columns, of which the first two are the same.
-fn add_three(alloc: Global, pool: &mut Pool, fulls: &mut Fulls) -> Result<[ColId; 3], AddError>
+/// The numbers of three columns, of which the first two are the same, and how many columns there are after these two.
+fn add_three(
+    alloc: Global,
+    pool: &mut Pool,
+    fulls: &mut Fulls,
+) -> Result<([ColId; 3], usize), AddError>
     requires both { IsLegalColumn pool.old.mill (column_of (Kind.New 10) (0 ∷ 1 ∷ [])) }
     requires second { IsLegalColumn pool.old.mill (column_of (Kind.New 4) (1 ∷ [])) }
 {
     let both = [0, 1];
     let first = pool.add(alloc, Kind::New(10), &both, fulls)?;
     let again = pool.add(alloc, Kind::New(10), &both, fulls)?;
+    let length = pool.len();
     let other = pool.add(alloc, Kind::New(4), &[1], fulls)?;
-    Ok([first, again, other])
+    Ok(([first, again, other], length))
 }
 
 /// Whether the pool finds this column and lends it.
@@ -49,8 +54,8 @@ fn columns_keep_their_numbers(rt: HostRuntime) -> Result<(), Fail> {
     let mill = mill_of_two_orders(alloc)?;
     let mut pool = Pool::new(alloc, &mill)?;
     let mut fulls = Fulls::new();
-    let [first, again, other] = add_three(alloc, &mut pool, &mut fulls)?;
-    assert!(rt; first == ColId(0) && again == ColId(0) && other == ColId(1));
+    let ([first, again, other], length) = add_three(alloc, &mut pool, &mut fulls)?;
+    assert!(rt; first == ColId(0) && again == ColId(0) && length == 1 && other == ColId(1));
     assert!(rt; pool.len() == 2 && fulls.count() == 0);
     assert!(rt; has(&pool, Kind::New(10), &[0, 1]) && has(&pool, Kind::New(4), &[1]));
     assert!(rt; !has(&pool, Kind::New(10), &[1]));

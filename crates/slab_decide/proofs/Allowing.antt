@@ -13,7 +13,7 @@ use Rattle.mill_model.proofs.Agreement.{column_follows}
 use Rattle.slab_closure.specs.declared.relation.Relation.{Relation}
 use Rattle.slab_closure.specs.declared.relation.Relation.TheVariants.{Open, Same, Apart}
 use Rattle.slab_closure.specs.Relations.{Table, Relations, IsClosed, relation_at}
-use Rattle.slab_decide.specs.Decided.{Decisions, IsAskOf, IsKindOf, AreConsistent}
+use Rattle.slab_decide.specs.Decided.{Decisions, IsAskOf, AreConsistent}
 use Rattle.slab_decide.specs.Nodes.{first_node, second_node, relation_of}
 use Rattle.slab_decide.specs.Kept.{IsRecorded, IsKept}
 use Rattle.slab_decide.specs.Whole.{has_node, suits, IsRowWhole, IsWhole, IsSlabWhole, AreOrdersWhole, IsSlabNode, AreNodes}
@@ -210,16 +210,32 @@ slab_from_whole n yard at c w node whole = by_kind c.kind refl
 pub orders_from_whole : (n yard : ℕ) (at : Table) (c : Column) → All (λ o. yard + o < n) c.orders → IsWhole n at (has_node yard c) → AreOrdersWhole n at (has_node yard c) yard c.orders
 orders_from_whole n yard at c rises whole k h = whole (yard + slice_index c.orders k) (rises k 0 h) (order_node yard c (slice_index c.orders k) ∙ at_has c.orders k h)
 
-pub kind_node : (v : Decisions) (n : ℕ) (k : Kind) → v.yard ≤ n → IsKindOf v k → IsSlabNode n k
-kind_node v n (New size) w h = tt
-kind_node v n (Old s) w h = omega (arith, w, h)
+-- decisions ask of surplus slabs that there are alone
+first_alike : (ask : Ask) (k l : Kind) (orders : List ℕ) → first_test ask (record { kind = k; orders = orders }) ≡ first_test ask (record { kind = l; orders = orders })
+first_alike (Pair i j) k l orders = refl
+first_alike (Put o s) k l orders = refl
+
+second_alike : (v : Decisions) (ask : Ask) (k l : Kind) (orders : List ℕ) → IsAskOf v ask → ((s : ℕ) → s < v.yard → is_old s k ≡ is_old s l) → second_test ask (record { kind = k; orders = orders }) ≡ second_test ask (record { kind = l; orders = orders })
+second_alike v (Pair i j) k l orders h alike = refl
+second_alike v (Put o s) k l orders h alike = alike s h.1
+
+answers : Bool → Bool → Bool → Bool
+answers b f s = cond b (cond f s (not s)) (not (f && s))
+
+pub agrees_alike : (v : Decisions) (list : List Decision) (k l : Kind) (orders : List ℕ) → AllByRecursion (λ (d : Decision). IsAskOf v d.0) list → ((s : ℕ) → s < v.yard → is_old s k ≡ is_old s l)
+    → column_agrees list (record { kind = k; orders = orders }) ≡ column_agrees list (record { kind = l; orders = orders })
+agrees_alike v [] k l orders asks alike = refl
+agrees_alike v (d ∷ list) k l orders asks alike =
+    let first : first_test d.0 (record { kind = k; orders = orders }) ≡ first_test d.0 (record { kind = l; orders = orders }) = first_alike d.0 k l orders in
+    let second : second_test d.0 (record { kind = k; orders = orders }) ≡ second_test d.0 (record { kind = l; orders = orders }) = second_alike v d.0 k l orders asks.0 alike in
+    rw (first, second, agrees_alike v list k l orders asks.1 alike) refl
 
 pub orders_in : (low high yard : ℕ) (xs : List ℕ) → Rises low high xs → All (λ o. yard + o < yard + high) xs
 orders_in low high yard [] h k d l = absurd (omega (arith, l))
 orders_in low high yard (x ∷ xs) h zero d l = omega (arith, h.1)
 orders_in low high yard (x ∷ xs) h (suc k) d l = orders_in (x + 1) high yard xs h.2 k d (omega (arith, l))
 
-module _ (v : Decisions) (r : Relations) (kept : IsKept v r) (c : Column) (kind : IsKindOf v c.kind) (rises : Rises 0 v.orders c.orders) where
+module _ (v : Decisions) (r : Relations) (kept : IsKept v r) (c : Column) (slab : IsSlabNode v.yard c.kind) (rises : Rises 0 v.orders c.orders) where
   within : v.yard ≤ r.count
   within = omega (arith, kept.count)
 
@@ -228,7 +244,7 @@ module _ (v : Decisions) (r : Relations) (kept : IsKept v r) (c : Column) (kind 
   nodes = record {
     within = within;
     limit = omega (arith, kept.count, kept.decisions.orders, kept.decisions.yard);
-    slab = kind_node v v.yard c.kind (omega arith) kind;
+    slab = slab;
     rises = subst (λ n. Rises 0 n c.orders) (omega (arith, kept.count)) rises;
   }
 
@@ -236,10 +252,10 @@ module _ (v : Decisions) (r : Relations) (kept : IsKept v r) (c : Column) (kind 
   in_range = subst (λ n. All (λ o. v.yard + o < n) c.orders) (sym kept.count) (orders_in 0 v.orders v.yard c.orders rises)
 
   pub refused : (b : Bool) → b ≡ false → (IsSlabWhole r.count (relation_at r) (has_node v.yard c) c.kind → b ≡ true) → false ≡ column_agrees v.list c
-  refused b e f = sym (false_from_ne_true (column_agrees v.list c) (λ t. both_ways b e (f (slab_from_whole r.count v.yard (relation_at r) c within (kind_node v v.yard c.kind (omega arith) kind) (agrees_whole v r kept c t)))))
+  refused b e f = sym (false_from_ne_true (column_agrees v.list c) (λ t. both_ways b e (f (slab_from_whole r.count v.yard (relation_at r) c within slab (agrees_whole v r kept c t)))))
 
   pub answered : (b : Bool) → IsSlabWhole r.count (relation_at r) (has_node v.yard c) c.kind
       → (b ≡ true → AreOrdersWhole r.count (relation_at r) (has_node v.yard c) v.yard c.orders)
       → (AreOrdersWhole r.count (relation_at r) (has_node v.yard c) v.yard c.orders → b ≡ true) → b ≡ column_agrees v.list c
-  answered true slab f g = sym (whole_agrees v r kept c (whole_from_rows r.count v.yard (relation_at r) c slab (f refl)))
-  answered false slab f g = sym (false_from_ne_true (column_agrees v.list c) (λ t. both_ways false refl (g (orders_from_whole r.count v.yard (relation_at r) c in_range (agrees_whole v r kept c t)))))
+  answered true whole f g = sym (whole_agrees v r kept c (whole_from_rows r.count v.yard (relation_at r) c whole (f refl)))
+  answered false whole f g = sym (false_from_ne_true (column_agrees v.list c) (λ t. both_ways false refl (g (orders_from_whole r.count v.yard (relation_at r) c in_range (agrees_whole v r kept c t)))))

@@ -20,11 +20,6 @@ abbrev pub IsAskOf : Decisions → Ask → Type 0
 IsAskOf v (Pair i j) = (i < j) × (j < v.orders)
 IsAskOf v (Put o s) = (o < v.orders) × (s < v.yard)
 
--- a surplus slab that there is, or a new slab
-abbrev pub IsKindOf : Decisions → Kind → Type 0
-IsKindOf v (New size) = Unit {0}
-IsKindOf v (Old s) = s < v.yard
-
 -- no ask is decided twice
 abbrev pub AreAskedOnce : List Decision → Type 0
 AreAskedOnce [] = Unit {0}

@@ -1,9 +1,21 @@
-ghost use Rattle.std.specs.Prelude.{◌≡◌, ◌+◌, ◌<◌, ◌≤◌, ◌↔◌, IsTrue, All, length};
+ghost use Rattle.std.specs.Prelude.{ℕ, ◌≡◌, ◌+◌, ◌<◌, ◌≤◌, ◌↔◌, IsTrue, All, length};
+ghost use Rattle.mill_model.specs.Columns.{is_old};
 ghost use Rattle.slab_closure.specs.Relations.{relation_at};
 ghost use Rattle.slab_decide.specs.Whole.{has_node, IsRowWhole, IsSlabWhole, AreOrdersWhole, AreNodes, IsSlabBeside, AreOrdersBeside, slab_in_group, orders_in_group, IsSlabNode};
 
 use mill_model::Kind;
 use slab_closure::{Closure, Relation};
+
+/// The kind of slab, as decisions see it: one that isn't in the yard is in none of them, as a new slab is.
+pub(crate) fn known_kind(yard: u16, kind: Kind) -> Kind
+    ensures known { IsSlabNode yard result }
+    ensures alike { (s : ℕ) → s < yard → is_old s result ≡ is_old s kind }
+{
+    match kind {
+        Kind::Old(s) if s >= yard => Kind::New(0),
+        Kind::Old(_) | Kind::New(_) => kind,
+    }
+}
 
 /// Whether the column's surplus slab, where it has one, isn't apart from a node.
 fn is_slab_beside(relations: &Closure, kind: Kind, x: usize) -> bool

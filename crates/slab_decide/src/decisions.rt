@@ -3,11 +3,11 @@ ghost use Rattle.mill_model.specs.declared.ask.Ask.{Ask};
 ghost use Rattle.mill_model.specs.Columns.{Rises};
 ghost use Rattle.mill_model.specs.Decisions.{column_agrees};
 ghost use Rattle.mill_model.specs.Assignments.{Follows};
-ghost use Rattle.slab_decide.specs.Decided.{Decisions, IsAskOf, IsKindOf, AreDecisions, AreConsistent, HasDecided, IsOpen, IsFirstOpen, AreSettledFor};
+ghost use Rattle.slab_decide.specs.Decided.{Decisions, IsAskOf, AreDecisions, AreConsistent, HasDecided, IsOpen, IsFirstOpen, AreSettledFor};
 
 use crate::Clash;
 use crate::asks::{add, nodes, relation_of, stands};
-use crate::column::{are_orders_whole, is_slab_whole};
+use crate::column::{are_orders_whole, is_slab_whole, known_kind};
 use crate::open_asks::{first_open_pair, first_open_put};
 use mill_model::{Ask, Kind};
 use slab_closure::{Closure, Relation};
@@ -139,6 +139,7 @@ impl Decisions {
     pub fn first_open(&self) -> Option<Ask>
         ensures some { IfSome result (IsFirstOpen self.now) }
         ensures none { IfNone result (AreSettledFor self.now) }
+        ensures consistent { AreConsistent self.now.list }
         ensures decisions { AreDecisions self.now }
     {
         if let Some(ask) = first_open_pair(&self.relations, self.orders, self.yard) {
@@ -149,13 +150,13 @@ impl Decisions {
 
     /// Whether a column, a kind of slab with its orders, agrees with every decision.
     pub fn allows(&self, kind: Kind, orders: &[u16]) -> bool
-        requires kind { IsKindOf self.now kind }
-        requires orders { Rises 0 self.now.orders orders.now }
+        requires { Rises 0 self.now.orders orders.now }
         ensures { result ≡ column_agrees self.now.list (record { kind = kind; orders = orders.now }) }
     {
-        if !is_slab_whole(&self.relations, self.yard, kind, orders) {
+        let known = known_kind(self.yard, kind);
+        if !is_slab_whole(&self.relations, self.yard, known, orders) {
             return false;
         }
-        are_orders_whole(&self.relations, self.yard, kind, orders)
+        are_orders_whole(&self.relations, self.yard, known, orders)
     }
 }

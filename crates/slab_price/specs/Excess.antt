@@ -7,7 +7,7 @@ use Rattle.mill_model.specs.SignedSums.{total_by}
 use Rattle.mill_model.specs.Columns.{Column, IsLegalColumn, load, loss_of}
 use Rattle.mill_model.specs.Prices.{Prices, price_at, charge}
 use Rattle.mill_model.specs.Decisions.{Decision, column_agrees}
-use Rattle.loss_table.specs.LeastSizes.{IsLeastSize}
+use Rattle.mill_model.specs.LeastSizes.{IsLeastSize}
 use Rattle.slab_decide.specs.Decided.{Decisions}
 use Rattle.slab_price.specs.Found.{Found}
 

@@ -1,5 +1,5 @@
 use Rattle.std.proofs.Common.{take}
-use Rattle.loss_table.specs.LeastSizes.{IsAnswer}
+use Rattle.mill_model.specs.LeastSizes.{IsAnswer}
 use Rattle.loss_table.proofs.least_size.least_size.Given as goal
 
 abbrev pub invariant-loop-size : goal.invariant-loop-size

@@ -1,5 +1,5 @@
 use Rattle.std.proofs.Common.{ℕ, ◌≡◌, ◌<◌, length, get_or}
-use Rattle.loss_table.specs.LeastSizes.{IsLeastSize}
+use Rattle.mill_model.specs.LeastSizes.{IsLeastSize}
 use Rattle.loss_table.proofs.loss_table.table_of.Given as goal
 
 abbrev pub invariant-loop-load : goal.invariant-loop-load

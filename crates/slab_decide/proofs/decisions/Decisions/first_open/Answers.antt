@@ -3,6 +3,8 @@ use Rattle.std.specs.Prelude.{IfSome, IfNone}
 use Rattle.mill_model.specs.declared.ask.Ask.{Ask}
 use Rattle.mill_model.specs.Decisions.{Decision}
 use Rattle.slab_decide.specs.Decided.{Decisions, IsFirstOpen, AreSettledFor}
+use Rattle.slab_decide.specs.Kept.{IsKept}
+use Rattle.slab_decide.proofs.Kept.{kept_consistent}
 use Rattle.slab_decide.proofs.FirstOpen.{first_pair, first_put, all_settled}
 use Rattle.slab_decide.proofs.decisions.Decisions.first_open.Goals as goal
 
@@ -31,3 +33,9 @@ pub returns-clause-none : goal.returns-clause-none
 returns-clause-none c =
     subst (λ (v : Decisions). IfNone c.first_open_put.result (AreSettledFor v)) c.self.view_is
     (none_weaker c.first_open_put.result _ _ (λ h. all_settled (seen c.self.inside.orders c.self.inside.yard c.self.inside.list.items) c.self.inside.relations c.self.invariant.0 c.in_default.ensures.none h) c.first_open_put.ensures.none)
+
+pub returns-in-Some-clause-consistent : goal.returns-in-Some-clause-consistent
+returns-in-Some-clause-consistent c = kept_consistent c.args.self.now c.self.inside.relations (subst (λ (v : Decisions). IsKept v c.self.inside.relations) c.self.view_is c.self.invariant.0)
+
+pub returns-clause-consistent : goal.returns-clause-consistent
+returns-clause-consistent c = kept_consistent c.args.self.now c.self.inside.relations (subst (λ (v : Decisions). IsKept v c.self.inside.relations) c.self.view_is c.self.invariant.0)
