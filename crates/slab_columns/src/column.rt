@@ -7,6 +7,8 @@ pub struct ColId(pub u16);
 /// A column of a pool: a slab, and the orders that lie on it, which the pool lends.
 #[derive(Clone, Copy)]
 pub struct Column<'a> {
+    /// The slab.
     pub kind: Kind,
+    /// The orders, rising.
     pub orders: &'a [u16],
 }
