@@ -11,10 +11,10 @@ abbrev pub seen_path : Trail → Option Kind → List ℕ → Path
 seen_path trail bad orders = record { orders = trail.orders; slabs = trail.slabs; decisions = trail.decisions; bad = option_map (λ (kind : Kind). record { kind = kind; orders = orders }) bad }
 
 -- there is room for the prices, for the search of a column that exceeds, and for the orders of one
-pub record IsReady (trail : Trail) (quote : Prices) (workspace : Workspace) (capacity : ℕ) : Type 0 where
+pub record IsReady (trail : Trail) (quote : Prices) (space : Workspace) (capacity : ℕ) : Type 0 where
   pub few_orders : trail.orders ≤ 250
   pub few_slabs : trail.slabs ≤ 40
   pub pi_length : length quote.pi ≡ trail.orders
   pub sigma_length : length quote.sigma ≡ trail.slabs
-  pub workspace : HasSpace trail.orders workspace
+  pub workspace : HasSpace trail.orders space
   pub room : trail.orders ≤ capacity

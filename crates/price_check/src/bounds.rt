@@ -84,7 +84,9 @@ pub(crate) fn fill_bounds(
 }
 
 // Whether trying all of a queue is less work than a row for each load.
-fn is_short(len: usize, room: usize) -> bool {
+fn is_short(len: usize, room: usize) -> bool
+    requires { room ≤ 10000 }
+{
     len < 14 && (1 << len) <= room + 1
 }
 

@@ -17,7 +17,7 @@ fn with_slab(best: i128, load: usize, size: u16, cost: i128) -> i128
     requires best { unsigned_abs best ≤ 2 ^ 100 }
     requires cost { unsigned_abs cost ≤ 2 ^ 76 }
     ensures no_less { best ≤ℤ result }
-    ensures bound { load ≤ size → pos 0 ≤ℤ cost +ℤ result }
+    ensures bound { load ≤ size → pos 0 ≤ℤ (cost +ℤ result) }
     ensures small { unsigned_abs result ≤ 2 ^ 100 }
 {
     if usize::from(size) < load {

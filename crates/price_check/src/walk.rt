@@ -1,5 +1,5 @@
 //! The walk over the columns of two colours, group by group.
-ghost use Rattle.std.specs.Prelude.{◌≡◌, ◌+◌, ◌*◌, ◌/◌, ◌^◌, ◌<◌, ◌≤◌, ◌⊎◌, ℕ, pos, ◌+ℤ◌, ◌≤ℤ◌, unsigned_abs, IfNone, IfSome, length, drop, slice_index_or, vec_capacity};
+ghost use Rattle.std.specs.Prelude.{◌≡◌, ◌+◌, ◌*◌, ◌/◌, ◌^◌, ◌<◌, ◌≤◌, ℕ, ℤ, pos, ◌+ℤ◌, ◌≤ℤ◌, unsigned_abs, IfNone, IfSome, length, drop, slice_index_or, vec_capacity};
 ghost use Rattle.std.specs.Bool.{OnTrue, OnFalse};
 ghost use Rattle.mill_model.specs.Groups.{members};
 ghost use Rattle.price_check.specs.Groupings.{weight_at, gain_at};
