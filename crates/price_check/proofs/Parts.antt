@@ -88,15 +88,10 @@ part-from_has low high (x ∷ xs) (y ∷ ys) r s h = elim (cases_eq x y) [
 pub members_from_all : (P : ℕ → Type 0) (low : ℕ) (heads taken : List ℕ) → ((k : ℕ) → k < length heads → has taken (get_or heads k 0) ≡ true → P (low + k)) → AllByRecursion P (members_from low heads taken)
 members_from_all P low [] taken h = tt
 members_from_all P low (head ∷ heads) taken h =
+    let rest : AllByRecursion P (members_from (low + 1) heads taken) = members_from_all P (low + 1) heads taken (λ k lt e. let shifted : low + suc k ≡ low + 1 + k = omega arith in subst P shifted (h (suc k) (omega arith) e)) in
     cond_both (has taken head) (low ∷ members_from (low + 1) heads taken) (members_from (low + 1) heads taken) (λ os. AllByRecursion P os)
     (λ q. (subst P (omega arith) (h 0 (omega arith) q), rest))
     (λ q. rest)
-  where
-    shifted : (k : ℕ) → low + suc k ≡ low + 1 + k
-    shifted k = omega arith
-
-    rest : AllByRecursion P (members_from (low + 1) heads taken)
-    rest = members_from_all P (low + 1) heads taken (λ k lt e. subst P (shifted k) (h (suc k) (omega arith) e))
 
 pub all-has : (P : ℕ → Type 0) (xs : List ℕ) (z : ℕ) → AllByRecursion P xs → has xs z ≡ true → P z
 all-has P [] z all h = absurd (both_ways (has [] z) refl h)

@@ -58,3 +58,7 @@ product_same z x l k p e h =
     let small : unsigned_abs x ≤ 2 ^ 62 = IsPrice_small x p in
     let same : to_z w64 (of_z w64 l) ≡ x = omega (arith, ints) in
     h ∙ ap (λ y. y *ℤ k) same
+
+-- a sum as it was computed
+pub add_back : (x y : ℤ) → unsigned_abs x ≤ 2 ^ 110 → unsigned_abs y ≤ 2 ^ 110 → to_z w128 (of_z w128 (to_z w128 (of_z w128 x) +ℤ to_z w128 (of_z w128 y))) ≡ x +ℤ y
+add_back x y a b = omega (arith, ints)

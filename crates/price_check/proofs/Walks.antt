@@ -78,7 +78,7 @@ module _ (m : Mill) (decisions : List Decision) (p : Prices) (g : Groups) (queue
       pub chosen_orders : (a b : ℕ) → at ≡ length queue → IsQueue m g.heads a b queue → AreChosen m p a b weight gain (members g.heads chosen)
       chosen_orders a b end is = record {
         rises = subst (λ n. Rises 0 n (members g.heads chosen)) groups.room.heads (members_rise g.heads chosen);
-        colours = members_from_all (IsOf m a b) 0 g.heads chosen (λ k lt e. is.of (get_or g.heads k 0) (part-has queue chosen within (get_or g.heads k 0) e) k lt refl);
+        colours = members_from_all (IsOf m a b) 0 g.heads chosen (λ k lt e. subst (λ o. IsOf m a b o) (omega arith) (is.of (get_or g.heads k 0) (part-has queue chosen within (get_or g.heads k 0) e) k lt refl));
         weight_is = let whole = load_with [] (part-nil (drop at queue)) in omega (arith, ap (λ os. load m (members g.heads os)) (append-nil chosen), whole);
         gain_is = let whole = gains_with [] (part-nil (drop at queue)) in omega (arith, ints, ap (λ os. gains_of m p (members g.heads os)) (append-nil chosen), whole);
       }

@@ -45,7 +45,7 @@ pub record AreBounds (m : Mill) (p : Prices) (g : Groups) (queue : List ℕ) (ro
 -- the columns of a row below one: each is at least what stands there in the next row, and where a group is taken
 pub record IsRow (start width jump : ℕ) (gain : ℤ) (done : ℕ) (cells : List ℤ) : Type 0 where
   pub without : (column : ℕ) → column < done → cell_at cells (start + width + column) ≤ℤ cell_at cells (start + column)
-  pub with : (column : ℕ) → column < done → column + jump < width → (gain +ℤ cell_at cells (start + width + (column + jump))) ≤ℤ cell_at cells (start + column)
+  pub with : (column : ℕ) → column < done → column + jump < width → (gain +ℤ cell_at cells (start + width + column + jump)) ≤ℤ cell_at cells (start + column)
 
 -- what two colours gain
 abbrev pub both_at : List ℤ → ℕ → ℕ → ℤ

@@ -24,7 +24,7 @@ pub record IsHunt (h : Hunt) : Type 0 where
   pub set : AreSet h.mill.now h.quote.now
   pub groups : AreGroups h.mill.now h.trail.now.decisions h.quote.now h.groups.now
   pub queue : IsQueue h.mill.now h.groups.now.heads h.first h.second h.queue.now
-  pub bounds : AreBounds h.mill.now h.quote.now h.groups.now h.queue.now h.room h.bounds.step h.bounds.width h.bounds.cells.now
+  pub bounds : AreBounds h.mill.now h.quote.now h.groups.now h.queue.now h.room h.step h.width h.cells.now
   pub most_size : (kind : Kind) → IsInStock h.mill.now kind → size_of h.mill.now kind ≤ h.room
   pub narrow : h.room ≤ 10000
   pub few : length h.mill.now.orders ≤ 250

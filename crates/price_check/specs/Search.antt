@@ -25,11 +25,15 @@ pub record AreFrom (m : Mill) (a b : ℕ) (order : ℕ) (orders : List ℕ) : Ty
 abbrev pub IsGroupOf : Mill → List ℕ → ℕ → ℕ → ℕ → Type 0
 IsGroupOf m heads a b head = (o : ℕ) → o < length heads → head_of heads o ≡ head → IsOf m a b o
 
--- the heads of the groups all of whose orders are of two colours
-pub record IsQueue (m : Mill) (heads : List ℕ) (a b : ℕ) (queue : List ℕ) : Type 0 where
-  pub rises : Rises 0 (length heads) queue
+-- the heads below one of the groups all of whose orders are of two colours
+pub record IsQueueTo (m : Mill) (heads : List ℕ) (a b : ℕ) (done : ℕ) (queue : List ℕ) : Type 0 where
+  pub rises : Rises 0 done queue
   pub of : (head : ℕ) → has queue head ≡ true → IsGroupOf m heads a b head
-  pub all : (head : ℕ) → head < length heads → head_of heads head ≡ head → IsGroupOf m heads a b head → has queue head ≡ true
+  pub all : (head : ℕ) → head < done → head_of heads head ≡ head → IsGroupOf m heads a b head → has queue head ≡ true
+
+-- all of them
+abbrev pub IsQueue : Mill → List ℕ → ℕ → ℕ → List ℕ → Type 0
+IsQueue m heads a b queue = IsQueueTo m heads a b (length heads) queue
 
 -- the column of these orders on a slab of this kind doesn't exceed
 abbrev pub IsPricedOn : Mill → List Decision → Prices → List ℕ → Kind → Type 0

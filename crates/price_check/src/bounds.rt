@@ -6,14 +6,6 @@ ghost use Rattle.price_check.specs.Hunts.{IsLeaf};
 
 use crate::pair::Leaf;
 
-/// A row of bounds for each place of a queue, and one for its end. A row's columns stand for the multiples of a step.
-#[derive(Clone, Copy)]
-pub(crate) struct Bounds<'a> {
-    pub step: usize,
-    pub width: usize,
-    pub cells: &'a [i128],
-}
-
 // The bound without a group, or with it where there is room.
 fn cell(cells: &[i128], below: usize, end: usize, jump: usize, gain: i128) -> i128
     requires within { below < end }

@@ -5,7 +5,7 @@ ghost use Rattle.price_check.specs.Search.{IsQueue, IsClear, IsClearOf};
 ghost use Rattle.price_check.specs.Hunts.{IsLeaf};
 ghost use Rattle.price_check.specs.Spaces.{HasPairRoom};
 
-use crate::bounds::{Bounds, fill_bounds, step_for};
+use crate::bounds::{fill_bounds, step_for};
 use crate::groups::Groups;
 use crate::plus::both_at;
 use crate::queue::fill_queue;
@@ -113,11 +113,9 @@ fn search_queue(
         first,
         second,
         queue: &space.queue,
-        bounds: Bounds {
-            step,
-            width,
-            cells: &space.cells,
-        },
+        step,
+        width,
+        cells: &space.cells,
         room: leaf.room,
     };
     walk(&hunt, 0, 0, 0, &mut space.chosen, orders)

@@ -8,7 +8,6 @@ ghost use Rattle.price_check.specs.Search.{AreTaken, AreChosen, IsClear, IsPrice
 ghost use Rattle.price_check.specs.Bounds.{IsBound};
 ghost use Rattle.price_check.specs.Hunts.{IsHunt};
 
-use crate::bounds::Bounds;
 use crate::gains::{cost_of_new, cost_of_old};
 use crate::groups::Groups;
 use crate::quote::Quote;
@@ -27,8 +26,11 @@ pub(crate) struct Hunt<'a> {
     pub second: u16,
     /// The heads of the groups of the two colours.
     pub queue: &'a [u16],
-    /// At least what the groups from each place of the queue on gain beyond the cost of a slab.
-    pub bounds: Bounds<'a>,
+    /// A row of bounds for each place of the queue, and one for its end: at least what groups from there on gain beyond
+    /// the cost of a slab. A row's columns stand for the multiples of a step of the load.
+    pub cells: &'a [i128],
+    pub width: usize,
+    pub step: usize,
     /// No slab is larger.
     pub room: usize,
 }
@@ -125,8 +127,8 @@ fn most(hunt: &Hunt<'_>, at: usize, weight: u32) -> i128
     ensures bound { IsBound hunt.now.mill.now hunt.now.quote.now hunt.now.groups.now (drop at hunt.now.queue.now) weight result }
     ensures small { unsigned_abs result ≤ 2 ^ 102 }
 {
-    let column = weight as usize / hunt.bounds.step;
-    hunt.bounds.cells[at * hunt.bounds.width + column]
+    let column = weight as usize / hunt.step;
+    hunt.cells[at * hunt.width + column]
 }
 
 // The weight and the gain with one group more, if some slab holds it too.

@@ -1,16 +1,10 @@
-use Rattle.std.proofs.Common.{sym, ◌∙◌, arith}
-use Rattle.price_check.proofs.Options.{none_at}
-use Rattle.price_check.proofs.Searches.{none_exceeds, clear_more}
+use Rattle.std.proofs.Common.{rules, ◌≡◌, ◌+◌, ◌≤◌, ◌<◌, ℕ, IfOk, IfNone, IfSome, length, vec_capacity, ◌-◌, ◌*◌, ◌/◌, ◌%◌, Bool, true, false, nat_eq, nat_lt, List, [], ◌∷◌, ◌++◌, slice_index_or, slice_set, bit_and, bit_or, Fits, w8, w32, w64, Bor, MutBor, ℤ, pos, ◌+ℤ◌, ◌-ℤ◌, ◌*ℤ◌, ◌≤ℤ◌, ◌<ℤ◌, FitsSigned, to_z, of_z}
+use Rattle.price_check.specs.Exceeding.{IsExceeding, NoneExceeds}
+use Rattle.price_check.specs.Search.{IsClearOf, AreSet}
+use Rattle.price_check.specs.Hunts.{IsLeaf}
+use Rattle.price_check.specs.Spaces.{HasPairRoom, HasSpace}
 use Rattle.price_check.proofs.search.search.Goals as goal
 
-pub loop-first-preserved : goal.loop-first-preserved
-loop-first-preserved c = record {
-  clear = clear_more c.args.mill.now c.args.trail.now.decisions c.args.quote.now c.loop-first.first c.loop-first.invariant.clear (none_at c.search_from-found.result _ (sym c.is_some.ensures ∙ c.if-is_some.false) c.search_from-found.ensures.none);
-  size = omega (arith, c.loop-first.invariant.size, c.search_from-found.auto.rest);
-  capacity = c.search_from-found.ensures.capacity ∙ c.loop-first.invariant.capacity;
-}
-
-pub returns-clause-none : goal.returns-clause-none
-returns-clause-none c =
-    none_exceeds c.args.mill.now c.args.trail.now.decisions c.args.quote.now c.colours-first-end.ensures.limits
-    (λ a b one le within. c.loop-first.invariant.clear a b one (omega (arith, c.loop-first-test.false, c.colours-first-end.ensures.value, le, within)) le within)
+-- src/search.rt:126:5
+pub search_all-requires-clause-leaf : goal.search_all-requires-clause-leaf
+search_all-requires-clause-leaf c = ?
