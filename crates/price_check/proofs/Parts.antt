@@ -1,5 +1,5 @@
 -- Parts of lists.
-use Rattle.std.proofs.Common.{◌≡◌, ℕ, suc, ◌+◌, ◌<◌, ◌≤◌, true, eqb, List, [], ◌∷◌, ◌++◌, length, get_or, refl, ap, sym, subst, inl, inr, ◌⊎◌, ◌∙◌, arith, append-nil}
+use Rattle.std.proofs.Common.{◌≡◌, ℕ, zero, suc, ◌+◌, ◌<◌, ◌≤◌, true, eqb, List, [], ◌∷◌, ◌++◌, length, get_or, refl, ap, sym, subst, inl, inr, ◌⊎◌, ◌∙◌, arith, append-nil}
 use Rattle.std.specs.List.{AllByRecursion}
 use Rattle.std.proofs.lemmas.Bool.{cases_eq, cases_lt, or_cases, or_left, or_right, cond_both, eq-eqb, eqb-true, both_ways}
 use Rattle.mill_model.specs.Columns.{Rises, has}
@@ -99,3 +99,9 @@ all-has P (x ∷ xs) z all h = elim (or_cases (eqb x z) (has xs z) h) [
   | inl q ↦ subst P (eqb-true x z q) all.0
   | inr q ↦ all-has P xs z all.1 q
 ]
+
+-- each number of a rising list is below its end
+pub rising_at : (low high : ℕ) (xs : List ℕ) (k : ℕ) → Rises low high xs → k < length xs → get_or xs k 0 < high
+rising_at low high [] k r lt = absurd (omega arith)
+rising_at low high (x ∷ xs) zero r lt = r.1
+rising_at low high (x ∷ xs) (suc k) r lt = rising_at (x + 1) high xs k r.2 (omega arith)

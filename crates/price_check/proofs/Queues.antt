@@ -1,7 +1,8 @@
 -- The queue of the groups of two colours.
-use Rattle.std.proofs.Common.{◌≡◌, ℕ, ◌+◌, ◌<◌, ◌≤◌, ℤ, pos, ◌≤ℤ◌, true, false, Bool, cond, ◌&&◌, ◌||◌, eqb, List, [], ◌∷◌, ◌++◌, length, refl, ap, subst, sym, inl, inr, ◌⊎◌, ◌∙◌, arith}
+use Rattle.std.proofs.Common.{◌≡◌, ℕ, ◌+◌, ◌<◌, ◌≤◌, ℤ, pos, ◌≤ℤ◌, true, false, Bool, cond, ◌&&◌, ◌||◌, eqb, List, [], ◌∷◌, ◌++◌, length, take, refl, ap, subst, sym, inl, inr, ◌⊎◌, ◌∙◌, arith}
 use Rattle.std.specs.List.{AllByRecursion}
 use Rattle.std.proofs.lemmas.Int.{ints}
+use Rattle.std.proofs.lemmas.List.{take_more, length-take-le}
 use Rattle.std.proofs.lemmas.Bool.{cases_eq, or_cases, or_left, or_right, cond_both, eq-eqb, eqb-true, both_ways}
 use Rattle.mill_model.specs.declared.kind.Kind.{Kind}
 use Rattle.mill_model.specs.Mill.{Mill}
@@ -12,7 +13,7 @@ use Rattle.mill_model.specs.Groups.{head_of, members, heads_in}
 use Rattle.mill_model.specs.Prices.{Prices}
 use Rattle.mill_model.proofs.Judging.{has-append}
 use Rattle.mill_model.proofs.Rising.{Rises-push}
-use Rattle.mill_model.proofs.Groups.{heads_in_rise, has-heads_in, whole_groups}
+use Rattle.mill_model.proofs.Groups.{heads_in_rise, has-heads_in, whole_groups, members_from-push, members_rise}
 use Rattle.price_check.specs.Gains.{gains_of}
 use Rattle.price_check.specs.Groupings.{Groups, AreGroups, gain_at}
 use Rattle.price_check.specs.Parts.{IsPart}
@@ -118,3 +119,15 @@ module _ (m : Mill) (decisions : List Decision) (p : Prices) (g : Groups) (group
   -- nor where the colours gain no more than each slab costs
   pub clear_of_plus : (plus : List ℤ) (floor : ℤ) (room : ℕ) → ArePlusFrom m g 0 plus → AreEnds m p floor room → both_at plus a b ≤ℤ floor → IsClearOf m decisions p a b
   clear_of_plus plus floor room are ends low kind orders from legal agrees = priced_of_plus m decisions p g groups a b kind orders from agrees plus floor room are ends low legal agrees
+
+-- ---- the orders of the chosen groups
+
+-- one order more
+pub members_more : (heads taken : List ℕ) (o : ℕ) → o < length heads → members (take (o + 1) heads) taken ≡ members (take o heads) taken ++ cond (has taken (head_of heads o)) (o ∷ []) []
+members_more heads taken o lt =
+    ap (λ hs. members hs taken) (take_more heads o 0 lt)
+    ∙ members_from-push 0 (take o heads) (head_of heads o) taken
+    ∙ ap (λ n. members (take o heads) taken ++ cond (has taken (head_of heads o)) (n ∷ []) []) (omega (arith, length-take-le o heads (omega arith)))
+
+pub members_length : (heads taken : List ℕ) (o : ℕ) → o ≤ length heads → length (members (take o heads) taken) ≤ o
+members_length heads taken o le = omega (arith, Rises-length 0 (length (take o heads)) (members (take o heads) taken) (omega arith) (members_rise (take o heads) taken), length-take-le o heads le)

@@ -43,6 +43,16 @@ row_more start width jump column gain next cells lt inside low lower row = recor
       | inr ne ↦ rw (other (start + width + c + jump) (λ e. omega arith), other (start + c) (λ e. ne (omega arith))) (row.with c (omega (arith, le, ne)) fits)
     ]
 
+pub small_more : (start column bound : ℕ) (next : ℤ) (cells : List ℤ) → start + column < length cells → ((c : ℕ) → c < column → unsigned_abs (cell_at cells (start + c)) ≤ bound) → unsigned_abs next ≤ bound → (c : ℕ) → c < column + 1 → unsigned_abs (cell_at (set cells (start + column) next) (start + c)) ≤ bound
+small_more start column bound next cells inside before here c lt = elim (cases_eq c column) [
+  | inl same ↦ rw same (rw (get_or-set_same cells (start + column) next (pos 0) inside) here)
+  | inr ne ↦ rw (get_or-set_other cells (start + column) (start + c) next (pos 0) (λ e. ne (omega arith))) (before c (omega (arith, lt, ne)))
+]
+
+-- a load within the room lies in a column
+pub div_within : (weight room step width : ℕ) → 0 < step → weight ≤ room → room / step < width → weight / step < width
+div_within weight room step width some light wide = omega (arith, le-div (weight / step) room step some (omega (arith, div-mul-le_self weight step, light)), wide)
+
 module _ (m : Mill) (p : Prices) (g : Groups) where
   -- what bounds for a load rounded down bounds for the load
   pub bound_rounded : (rest : List ℕ) (step weight : ℕ) (bound : ℤ) → IsBound m p g rest (weight / step * step) bound → IsBound m p g rest weight bound
@@ -83,6 +93,12 @@ module _ (m : Mill) (p : Prices) (g : Groups) where
 
         small : (at column : ℕ) → length queue ≤ at → at ≤ length queue → column < width → unsigned_abs (cell_at cells (at * width + column)) ≤ 2 ^ 100 + (length queue - at) * 2 ^ 84
         small at column low high lt = rw (at_end at column low high lt) (omega (arith, are.small (column * step) (within column lt)))
+
+    -- the cells of the next row are small
+    pub cells_small : (at : ℕ) (cells : List ℤ) → AreBoundsFrom m p g queue step width (at + 1) cells → at + 1 ≤ length queue → (k : ℕ) → at * width + width ≤ k → k < at * width + width + width → unsigned_abs (cell_at cells k) ≤ 2 ^ 100 + (length queue - (at + 1)) * 2 ^ 84
+    cells_small at cells rows within k low high =
+        let same : k ≡ (at + 1) * width + (k - (at * width + width)) = omega (arith, low) in
+        subst (λ i. unsigned_abs (cell_at cells i) ≤ 2 ^ 100 + (length queue - (at + 1)) * 2 ^ 84) (sym same) (rows.small (at + 1) (k - (at * width + width)) (omega arith) within (omega (arith, low, high)))
 
     -- one row more
     pub rows_more : (at : ℕ) (before after : List ℤ) → at < length queue → 0 < step → room / step < width → ((kind : Kind) → IsInStock m kind → size_of m kind ≤ room) → AreBoundsFrom m p g queue step width (at + 1) before

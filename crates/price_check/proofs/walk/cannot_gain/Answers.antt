@@ -1,17 +1,21 @@
-use Rattle.std.proofs.Common.{rules, ◌≡◌, ◌+◌, ◌*◌, ◌/◌, ◌^◌, ◌<◌, ◌≤◌, ℕ, ℤ, pos, ◌+ℤ◌, ◌≤ℤ◌, unsigned_abs, IfNone, IfSome, length, drop, slice_index_or, vec_capacity, ◌-◌, ◌%◌, Bool, true, false, nat_eq, nat_lt, List, [], ◌∷◌, ◌++◌, slice_set, bit_and, bit_or, Fits, w8, w32, w64, Bor, MutBor, ◌-ℤ◌, ◌*ℤ◌, ◌<ℤ◌, FitsSigned, to_z, of_z}
-use Rattle.std.specs.Bool.{OnTrue, OnFalse}
-use Rattle.mill_model.specs.Groups.{members}
-use Rattle.price_check.specs.Groupings.{weight_at, gain_at}
-use Rattle.price_check.specs.Exceeding.{IsExceeding}
-use Rattle.price_check.specs.Search.{AreTaken, AreChosen, IsClear, IsPricedOn}
-use Rattle.price_check.specs.Bounds.{IsBound}
-use Rattle.price_check.specs.Hunts.{IsHunt}
+use Rattle.std.proofs.Common.{◌≡◌, ℕ, ◌+◌, ◌*◌, ◌^◌, ◌<◌, ◌≤◌, ℤ, pos, ◌+ℤ◌, ◌≤ℤ◌, drop, length, subst, sym, to_z, of_z, arith}
+use Rattle.std.specs.Prelude.{unsigned_abs}
+use Rattle.std.specs.Int.{w128}
+use Rattle.std.proofs.lemmas.Int.{ints}
+use Rattle.std.proofs.lemmas.Bool.{OnTrue_from}
+use Rattle.price_check.proofs.Sums.{add_back}
+use Rattle.price_check.proofs.Queues.{Rises-length}
 use Rattle.price_check.proofs.walk.cannot_gain.Goals as goal
 
--- src/walk.rt:162:5
 pub overflow_add-result : goal.overflow_add-result
-overflow_add-result c = ?
+overflow_add-result c =
+    let short : length c.args.hunt.now.queue.now ≤ 250 = omega (arith, Rises-length 0 (length c.args.hunt.now.groups.now.heads) c.args.hunt.now.queue.now (omega arith) c.requires.hunt.queue.rises, c.requires.hunt.groups.room.heads, c.requires.hunt.few) in
+    let gain : unsigned_abs c.args.gain ≤ 2 ^ 92 = omega (arith, c.requires.small, c.requires.at, short) in
+    omega (arith, ints, gain, c.most.ensures.small)
 
--- src/walk.rt:155:1
 pub returns : goal.returns
-returns c = ?
+returns c =
+    let short : length c.args.hunt.now.queue.now ≤ 250 = omega (arith, Rises-length 0 (length c.args.hunt.now.groups.now.heads) c.args.hunt.now.queue.now (omega arith) c.requires.hunt.queue.rises, c.requires.hunt.groups.room.heads, c.requires.hunt.few) in
+    let gain : unsigned_abs c.args.gain ≤ 2 ^ 92 = omega (arith, c.requires.small, c.requires.at, short) in
+    let sum = add_back c.args.gain c.most.result (omega (arith, gain)) (omega (arith, c.most.ensures.small)) in
+    OnTrue_from _ _ (λ e. (c.most.result, grind (arith, ints, sum, e), c.most.ensures.bound))
