@@ -2,8 +2,11 @@
 use Rattle.std.proofs.Common.{◌≡◌, ℕ, ◌+◌, ◌-◌, ◌*◌, ◌^◌, ◌<◌, ◌≤◌, ℤ, pos, ◌+ℤ◌, ◌≤ℤ◌, List, [], ◌∷◌, length, get_or, set, ap, subst, sym, inl, inr, ◌⊎◌, ◌∙◌, arith, get_or-set_same, get_or-set_other, length-set}
 use Rattle.std.specs.Prelude.{unsigned_abs}
 use Rattle.std.proofs.lemmas.Int.{ints}
-use Rattle.std.proofs.lemmas.Bool.{cases_eq, eq-eqb, ne_eqb}
-use Rattle.mill_model.specs.Mill.{Mill}
+use Rattle.std.proofs.lemmas.Bool.{cases_eq, cases_lt, eq-eqb, ne_eqb}
+use Rattle.std.proofs.lemmas.List.{get_or_past}
+use Rattle.std.proofs.lemmas.List.Elements.{All-get_or}
+use Rattle.mill_model.specs.declared.order.Order.{Order}
+use Rattle.mill_model.specs.Mill.{Mill, IsInLimits, IsBetween}
 use Rattle.mill_model.specs.SignedSums.{total_by}
 use Rattle.mill_model.specs.Columns.{order_at, Rises}
 use Rattle.price_check.specs.Groupings.{Groups, gain_at}
@@ -105,3 +108,21 @@ module _ (m : Mill) (g : Groups) where
         | inl same ↦ subst (λ k. unsigned_abs (cell_at (set plus (order_at m order).colour (cell_at plus (order_at m order).colour +ℤ best)) k) ≤ (length m.orders - order) * 2 ^ 84) (sym same) (rw here (omega (arith, ints, little, are.small (order_at m order).colour, lt)))
         | inr ne ↦ rw (other c ne) (omega (arith, are.small c, lt))
       ]
+
+-- a list that is 0 at each of its places is 0 everywhere
+pub all_none : (plus : List ℤ) → ((k : ℕ) → k < length plus → cell_at plus k ≡ pos 0) → (k : ℕ) → cell_at plus k ≡ pos 0
+all_none plus h k = elim (cases_lt k (length plus)) [
+  | inl less ↦ h k less
+  | inr past ↦ get_or_past plus k (pos 0) past
+]
+
+pub colour_within : (m : Mill) (order : ℕ) → IsInLimits m → order < length m.orders → (order_at m order).colour < 251
+colour_within m order limits lt =
+    let between : IsBetween 1 m.colours (order_at m order).colour = All-get_or (λ (o : Order). IsBetween 1 m.colours o.colour) m.orders order (record { weight = 0; colour = 0 }) lt limits.order_colours in
+    omega (arith, between.1, limits.colours.1)
+
+pub both_small : (plus : List ℤ) (a b bound : ℕ) → ((c : ℕ) → unsigned_abs (cell_at plus c) ≤ bound) → unsigned_abs (both_at plus a b) ≤ bound + bound
+both_small plus a b bound h = elim (cases_eq a b) [
+  | inl same ↦ rw (eq-eqb a b same) (omega (arith, h a))
+  | inr other ↦ rw (ne_eqb a b other) (omega (arith, ints, h a, h b))
+]

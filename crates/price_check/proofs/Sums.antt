@@ -1,8 +1,8 @@
 -- Sums and products of prices.
-use Rattle.std.proofs.Common.{◌≡◌, ℕ, ◌+◌, ◌*◌, ◌^◌, ◌<◌, ◌≤◌, ℤ, pos, ◌+ℤ◌, ◌*ℤ◌, ◌<ℤ◌, ◌≤ℤ◌, List, length, get_or, take, subst, ap, ap₂, ◌∙◌, arith, to_z, of_z}
-use Rattle.std.specs.Prelude.{unsigned_abs, IsTrue}
+use Rattle.std.proofs.Common.{◌≡◌, ℕ, ◌+◌, ◌*◌, ◌^◌, ◌<◌, ◌≤◌, ℤ, pos, ◌+ℤ◌, ◌*ℤ◌, ◌<ℤ◌, ◌≤ℤ◌, List, length, get_or, take, subst, ap, ap₂, ◌∙◌, arith, to_z, of_z, true}
+use Rattle.std.specs.Prelude.{unsigned_abs, FitsSigned, IsTrue}
 use Rattle.std.specs.Int.{w64, w128, int_max}
-use lib.Signed.{lt_z}
+use lib.Signed.{lt_z, le_z}
 use Rattle.std.proofs.lemmas.Int.{ints, unsigned_abs-mul, int_max_is}
 use Rattle.std.proofs.lemmas.Nat.{mul-le}
 use Rattle.mill_model.specs.SignedSums.{total_by}
@@ -83,3 +83,20 @@ max_small left gain next best bound e a b d = omega (arith, ints, e, int_max_is 
 
 pub back_small : (x : ℤ) → unsigned_abs x ≤ 2 ^ 110 → to_z w128 (of_z w128 x) ≡ x
 back_small x a = omega (arith, ints)
+
+-- a comparison of a sum as it was computed
+pub le_same : (a x b : ℤ) → a ≡ x → le_z a b ≡ true → x ≤ℤ b
+le_same a x b e h = let low : a ≤ℤ b = le_from a b h in subst (λ z. z ≤ℤ b) e low
+  where
+    le_from : (a b : ℤ) → le_z a b ≡ true → a ≤ℤ b
+    le_from a b h = grind (arith, ints)
+
+pub positive_small : (gain best : ℤ) (bound : ℕ) → best ≡ int_max gain (pos 0) → unsigned_abs gain ≤ bound → unsigned_abs best ≤ bound
+positive_small gain best bound e a = omega (arith, ints, e, int_max_is gain (pos 0))
+
+-- a comparison of two numbers as they were read
+pub le_back : (a b : ℤ) → unsigned_abs a ≤ 2 ^ 110 → FitsSigned w128 b → le_z (to_z w128 (of_z w128 a)) (to_z w128 (of_z w128 b)) ≡ true → a ≤ℤ b
+le_back a b p q h =
+    let first : to_z w128 (of_z w128 a) ≡ a = omega (arith, ints) in
+    let second : to_z w128 (of_z w128 b) ≡ b = omega (arith, ints, q) in
+    subst (λ z. a ≤ℤ z) second (le_same (to_z w128 (of_z w128 a)) a (to_z w128 (of_z w128 b)) first h)

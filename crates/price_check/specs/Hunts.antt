@@ -1,6 +1,6 @@
 -- What the search at a leaf goes by.
-use Rattle.std.specs.Prelude.{◌≡◌, ℕ, ◌+◌, ◌≤◌, length}
-use Rattle.std.specs.Vec.{vec_capacity}
+use Rattle.std.specs.Prelude.{◌≤◌, FitsSigned, length}
+use Rattle.std.specs.Int.{w128}
 use Rattle.mill_model.specs.declared.kind.Kind.{Kind}
 use Rattle.mill_model.specs.Columns.{IsInStock, size_of}
 use Rattle.price_check.specs.declared.walk.Hunt.{Hunt}
@@ -15,6 +15,7 @@ pub record IsLeaf (l : Leaf) : Type 0 where
   pub groups : AreGroups l.mill.now l.trail.now.decisions l.quote.now l.groups.now
   pub plus : ArePlusFrom l.mill.now l.groups.now 0 l.plus.now
   pub ends : AreEnds l.mill.now l.quote.now l.floor l.room
+  pub fits : FitsSigned w128 l.floor
   pub paid : ArePaid l.mill.now l.quote.now l.room l.paid.now
   pub narrow : l.room ≤ 10000
   pub few : length l.mill.now.orders ≤ 250

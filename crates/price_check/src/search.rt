@@ -109,6 +109,8 @@ pub(crate) fn search(
     ensures space { HasSpace (length mill.now.orders) workspace.new }
     ensures capacity { vec_capacity orders.new ≡ vec_capacity orders.old }
 {
+    let few = mill.orders().len();
+    prove!(few <= 250);
     let room = usize::from(most_size(mill));
     workspace.groups.form(mill, trail, quote);
     fill_plus(mill, &workspace.groups, &mut workspace.plus);

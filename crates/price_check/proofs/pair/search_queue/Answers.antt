@@ -1,22 +1,26 @@
-use Rattle.std.proofs.Common.{rules, ◌≡◌, ◌+◌, ◌≤◌, ◌<◌, [], IfOk, IfNone, IfSome, length, vec_capacity, ℕ, ◌-◌, ◌*◌, ◌/◌, ◌%◌, Bool, true, false, nat_eq, nat_lt, List, ◌∷◌, ◌++◌, slice_index_or, slice_set, bit_and, bit_or, Fits, w8, w32, w64, Bor, MutBor, ℤ, pos, ◌+ℤ◌, ◌-ℤ◌, ◌*ℤ◌, ◌≤ℤ◌, ◌<ℤ◌, FitsSigned, to_z, of_z}
-use Rattle.price_check.specs.Exceeding.{IsExceeding}
-use Rattle.price_check.specs.Search.{IsQueue, IsClear, IsClearOf}
-use Rattle.price_check.specs.Hunts.{IsLeaf}
-use Rattle.price_check.specs.Spaces.{HasPairRoom}
+use Rattle.std.proofs.Common.{◌≡◌, ℕ, ◌+◌, ◌<◌, ◌≤◌, List, [], length, refl, subst, sym, ap, ◌∙◌, arith}
+use Rattle.std.specs.Option.{IfNone}
+use Rattle.price_check.specs.Search.{IsClear}
+use Rattle.price_check.proofs.Queues.{queue_length}
 use Rattle.price_check.proofs.pair.search_queue.Goals as goal
 
--- src/pair.rt:104:9
 pub step_for-step-requires-clause-few : goal.step_for-step-requires-clause-few
-step_for-step-requires-clause-few c = ?
+step_for-step-requires-clause-few c =
+    let short = queue_length c.args.leaf.now.mill.now c.args.leaf.now.groups.now.heads c.args.first c.args.second (length c.args.leaf.now.groups.now.heads) c.args.space.now.queue.items c.requires.queue in
+    omega (arith, short, c.len.ensures, c.args.space.now.queue.ok.0, c.requires.leaf.groups.room.heads, c.requires.leaf.few)
 
--- src/pair.rt:104:9
 pub step_for-step-requires-clause-cells : goal.step_for-step-requires-clause-cells
-step_for-step-requires-clause-cells c = ?
+step_for-step-requires-clause-cells c =
+    let short = queue_length c.args.leaf.now.mill.now c.args.leaf.now.groups.now.heads c.args.first c.args.second (length c.args.leaf.now.groups.now.heads) c.args.space.now.queue.items c.requires.queue in
+    omega (arith, short, c.len.ensures, c.len-2.ensures, c.args.space.now.queue.ok.0, c.args.space.now.cells.ok.0, c.requires.leaf.groups.room.heads, c.requires.space.cells)
 
--- src/pair.rt:121:5
 pub walk-requires-clause-few : goal.walk-requires-clause-few
-walk-requires-clause-few c = ?
+walk-requires-clause-few c =
+    let short = queue_length c.args.leaf.now.mill.now c.args.leaf.now.groups.now.heads c.args.first c.args.second (length c.args.leaf.now.groups.now.heads) c.args.space.now.queue.items c.requires.queue in
+    omega (arith, short, ap length c.deref-2.ensures.value, c.clear.ensures.capacity, c.requires.leaf.groups.room.heads, c.requires.space.chosen)
 
--- src/pair.rt:88:1
 pub returns-clause-none : goal.returns-clause-none
-returns-clause-none c = ?
+returns-clause-none c =
+    let queue : c.deref-2.result.now ≡ c.args.space.now.queue.items = c.deref-2.ensures.value in
+    subst (λ (qs : List ℕ). IfNone c.walk.result (IsClear c.args.leaf.now.mill.now c.args.leaf.now.trail.now.decisions c.args.leaf.now.quote.now c.args.leaf.now.groups.now.heads qs [])) queue
+    (subst (λ (os : List ℕ). IfNone c.walk.result (IsClear c.args.leaf.now.mill.now c.args.leaf.now.trail.now.decisions c.args.leaf.now.quote.now c.args.leaf.now.groups.now.heads c.deref-2.result.now os)) c.clear.ensures.items c.walk.ensures.none)

@@ -1,5 +1,5 @@
 use Rattle.std.proofs.Common.{◌≡◌, ℕ, ◌+◌, ◌<◌, ◌≤◌, List, [], ◌∷◌, ◌++◌, length, refl, sym, subst, ap, ◌∙◌, arith}
-use Rattle.std.specs.Vec.{Vec, vec_capacity}
+use Rattle.std.specs.Vec.{vec_capacity}
 use Rattle.std.proofs.lemmas.Bool.{both_ways}
 use Rattle.price_check.specs.Search.{IsQueueTo}
 use Rattle.price_check.proofs.Queues.{queue_push, queue_skip, queue_length}

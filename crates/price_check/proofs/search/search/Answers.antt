@@ -1,10 +1,28 @@
-use Rattle.std.proofs.Common.{rules, ◌≡◌, ◌+◌, ◌≤◌, ◌<◌, ℕ, IfOk, IfNone, IfSome, length, vec_capacity, ◌-◌, ◌*◌, ◌/◌, ◌%◌, Bool, true, false, nat_eq, nat_lt, List, [], ◌∷◌, ◌++◌, slice_index_or, slice_set, bit_and, bit_or, Fits, w8, w32, w64, Bor, MutBor, ℤ, pos, ◌+ℤ◌, ◌-ℤ◌, ◌*ℤ◌, ◌≤ℤ◌, ◌<ℤ◌, FitsSigned, to_z, of_z}
-use Rattle.price_check.specs.Exceeding.{IsExceeding, NoneExceeds}
-use Rattle.price_check.specs.Search.{IsClearOf, AreSet}
-use Rattle.price_check.specs.Hunts.{IsLeaf}
-use Rattle.price_check.specs.Spaces.{HasPairRoom, HasSpace}
+use Rattle.std.proofs.Common.{◌≡◌, ℕ, ◌+◌, ◌≤◌, ℤ, ◌≤ℤ◌, List, ◌++◌, length, take, drop, refl, subst, sym, ap, ◌∙◌, to_z, of_z, arith}
+use Rattle.std.specs.Prelude.{FitsSigned}
+use Rattle.std.specs.Int.{w128}
+use Rattle.std.proofs.lemmas.Int.{ints}
+use Rattle.mill_model.specs.Columns.{size_of}
+use Rattle.price_check.specs.Gains.{cost_of}
+use Rattle.price_check.specs.Bounds.{ArePlusFrom, ArePaid}
+use Rattle.price_check.proofs.Options.{written}
 use Rattle.price_check.proofs.search.search.Goals as goal
 
--- src/search.rt:126:5
 pub search_all-requires-clause-leaf : goal.search_all-requires-clause-leaf
-search_all-requires-clause-leaf c = ?
+search_all-requires-clause-leaf c =
+    let floor : to_z w128 (of_z w128 c.least_cost.result) ≡ c.least_cost.result = omega (arith, ints, c.least_cost.type_inv) in
+    let plus : c.deref.result.now ≡ c.fill_plus.new.plus = c.deref.ensures.value ∙ written c.args.workspace.now.plus.len c.fill_plus.new.plus _ (omega (arith, c.args.workspace.now.plus.ok.0, c.requires.space.plus, c.fill_plus.ensures.size)) in
+    let paid : c.deref-2.result.now ≡ c.fill_paid.new.paid = c.deref-2.ensures.value ∙ written c.args.workspace.now.paid.len c.fill_paid.new.paid _ (omega (arith, c.args.workspace.now.paid.ok.0, c.fill_paid.auto.paid, ap length c.deref_mut-2.ensures.value)) in
+    record {
+      set = c.requires.set;
+      groups = c.form.ensures;
+      plus = subst (λ (zs : List ℤ). ArePlusFrom c.args.mill.now c.form.new.self 0 zs) (sym plus) c.fill_plus.ensures;
+      ends = record {
+        least_cost = λ kind stock. subst (λ (z : ℤ). z ≤ℤ cost_of c.args.mill.now c.args.quote.now kind) (sym floor) (c.least_cost.ensures kind stock);
+        most_size = λ kind stock. subst (λ k. size_of c.args.mill.now kind ≤ k) (sym c.from-room.ensures) (c.most_size.ensures.most kind stock);
+      };
+      fits = subst (λ (z : ℤ). FitsSigned w128 z) (sym floor) (record { sfits = c.least_cost.type_inv });
+      paid = subst (λ (zs : List ℤ). ArePaid c.args.mill.now c.args.quote.now c.from-room.result zs) (sym paid) c.fill_paid.ensures;
+      narrow = omega (arith, c.from-room.ensures, c.most_size.ensures.within);
+      few = c.orders-few.ensures.limits.order_count;
+    }

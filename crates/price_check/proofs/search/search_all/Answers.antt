@@ -1,14 +1,16 @@
-use Rattle.std.proofs.Common.{rules, ◌≡◌, ◌+◌, ◌≤◌, ◌<◌, ℕ, IfOk, IfNone, IfSome, length, vec_capacity, ◌-◌, ◌*◌, ◌/◌, ◌%◌, Bool, true, false, nat_eq, nat_lt, List, [], ◌∷◌, ◌++◌, slice_index_or, slice_set, bit_and, bit_or, Fits, w8, w32, w64, Bor, MutBor}
-use Rattle.price_check.specs.Exceeding.{IsExceeding, NoneExceeds}
-use Rattle.price_check.specs.Search.{IsClearOf, AreSet}
-use Rattle.price_check.specs.Hunts.{IsLeaf}
-use Rattle.price_check.specs.Spaces.{HasPairRoom, HasSpace}
+use Rattle.std.proofs.Common.{sym, ◌∙◌, arith}
+use Rattle.price_check.proofs.Options.{none_at}
+use Rattle.price_check.proofs.Searches.{none_exceeds, clear_more}
 use Rattle.price_check.proofs.search.search_all.Goals as goal
 
--- src/search.rt:87:5
 pub loop-first-preserved : goal.loop-first-preserved
-loop-first-preserved c = ?
+loop-first-preserved c = record {
+  clear = clear_more c.args.leaf.now.mill.now c.args.leaf.now.trail.now.decisions c.args.leaf.now.quote.now c.loop-first.first c.loop-first.invariant.clear (none_at c.search_from-found.result _ (sym c.is_some.ensures ∙ c.if-is_some.false) c.search_from-found.ensures.none);
+  space = c.search_from-found.ensures.space;
+  capacity = c.search_from-found.ensures.capacity ∙ c.loop-first.invariant.capacity;
+}
 
--- src/search.rt:78:1
 pub returns-clause-none : goal.returns-clause-none
-returns-clause-none c = ?
+returns-clause-none c =
+    none_exceeds c.args.leaf.now.mill.now c.args.leaf.now.trail.now.decisions c.args.leaf.now.quote.now c.colours-first-end.ensures.limits
+    (λ a b one le within. c.loop-first.invariant.clear a b one (omega (arith, c.loop-first-test.false, c.colours-first-end.ensures.value, le, within)) le within)
