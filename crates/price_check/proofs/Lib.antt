@@ -6,6 +6,7 @@ pub mod Quotes
 pub mod Sums
 pub mod Pricing
 pub mod Parts
+pub mod Apartness
 pub mod Walks
 pub mod Groupings
 pub mod Offers

@@ -1,5 +1,5 @@
 -- What holds where an option is none, and of a list that was written.
-use Rattle.std.proofs.Common.{◌≡◌, ℕ, ℤ, false, Option, Some, None, List, ◌++◌, length, take, ap, ◌∙◌}
+use Rattle.std.proofs.Common.{◌≡◌, ℕ, false, Option, Some, None, List, ◌++◌, length, take, ap, ◌∙◌}
 use Rattle.std.proofs.Math.Seq.{take-append_seam}
 use Rattle.std.specs.Option.{IfNone, is_some}
 
@@ -12,5 +12,5 @@ none_at None P e h = h
 none_at (Some x) P e h = cc
 
 -- what was written into the whole of a list
-pub written : (n : ℕ) (xs ys : List ℤ) → n ≡ length xs → take n (xs ++ ys) ≡ xs
+pub written : {X : Type 0} (n : ℕ) (xs ys : List X) → n ≡ length xs → take n (xs ++ ys) ≡ xs
 written n xs ys e = ap (λ k. take k (xs ++ ys)) e ∙ take-append_seam xs ys

@@ -105,3 +105,8 @@ pub rising_at : (low high : ℕ) (xs : List ℕ) (k : ℕ) → Rises low high xs
 rising_at low high [] k r lt = absurd (omega arith)
 rising_at low high (x ∷ xs) zero r lt = r.1
 rising_at low high (x ∷ xs) (suc k) r lt = rising_at (x + 1) high xs k r.2 (omega arith)
+
+pub has_at : (xs : List ℕ) (k : ℕ) → k < length xs → has xs (get_or xs k 0) ≡ true
+has_at [] k lt = absurd (omega arith)
+has_at (x ∷ xs) zero lt = has_first x xs
+has_at (x ∷ xs) (suc k) lt = or_right (eqb x (get_or xs k 0)) (has xs (get_or xs k 0)) (has_at xs k (omega arith))

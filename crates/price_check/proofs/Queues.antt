@@ -32,8 +32,8 @@ Rises-length low high [] le r = omega arith
 Rises-length low high (x ∷ xs) le r = omega (arith, r.0, Rises-length (x + 1) high xs (omega (arith, r.1)) r.2)
 
 module _ (m : Mill) (heads : List ℕ) (a b done : ℕ) (queue : List ℕ) (is : IsQueueTo m heads a b done queue) where
-  pub queue_push : IsGroupOf m heads a b done → IsQueueTo m heads a b (done + 1) (queue ++ done ∷ [])
-  queue_push group = record { rises = Rises-push 0 (done + 1) queue done is.rises (omega arith) (omega arith); of = of; all = all }
+  pub queue_push : head_of heads done ≡ done → IsGroupOf m heads a b done → IsQueueTo m heads a b (done + 1) (queue ++ done ∷ [])
+  queue_push fixed group = record { rises = Rises-push 0 (done + 1) queue done is.rises (omega arith) (omega arith); own = own; of = of; all = all }
     where
       last : (head : ℕ) → has (queue ++ done ∷ []) head ≡ true → (has queue head ≡ true) ⊎ (done ≡ head)
       last head e = elim (or_cases (has queue head) (has (done ∷ []) head) (sym (has-append queue (done ∷ []) head) ∙ e)) [
@@ -44,6 +44,12 @@ module _ (m : Mill) (heads : List ℕ) (a b done : ℕ) (queue : List ℕ) (is :
         ]
       ]
 
+      own : (head : ℕ) → has (queue ++ done ∷ []) head ≡ true → head_of heads head ≡ head
+      own head e = elim (last head e) [
+        | inl q ↦ is.own head q
+        | inr same ↦ subst (λ k. head_of heads k ≡ k) same fixed
+      ]
+
       of : (head : ℕ) → has (queue ++ done ∷ []) head ≡ true → IsGroupOf m heads a b head
       of head e = elim (last head e) [
         | inl q ↦ is.of head q
@@ -51,13 +57,13 @@ module _ (m : Mill) (heads : List ℕ) (a b done : ℕ) (queue : List ℕ) (is :
       ]
 
       all : (head : ℕ) → head < done + 1 → head_of heads head ≡ head → IsGroupOf m heads a b head → has (queue ++ done ∷ []) head ≡ true
-      all head lt fixed its = elim (cases_eq head done) [
+      all head lt its_own its = elim (cases_eq head done) [
         | inl same ↦ has-append queue (done ∷ []) head ∙ or_right (has queue head) (has (done ∷ []) head) (or_left (eqb done head) false (eq-eqb done head (sym same)))
-        | inr other ↦ has-append queue (done ∷ []) head ∙ or_left (has queue head) (has (done ∷ []) head) (is.all head (omega (arith, lt, other)) fixed its)
+        | inr other ↦ has-append queue (done ∷ []) head ∙ or_left (has queue head) (has (done ∷ []) head) (is.all head (omega (arith, lt, other)) its_own its)
       ]
 
   pub queue_skip : (head_of heads done ≡ done → IsGroupOf m heads a b done → ⊥) → IsQueueTo m heads a b (done + 1) queue
-  queue_skip not = record { rises = Rises-higher 0 done (done + 1) queue (omega arith) is.rises; of = is.of; all = all }
+  queue_skip not = record { rises = Rises-higher 0 done (done + 1) queue (omega arith) is.rises; own = is.own; of = is.of; all = all }
     where
       all : (head : ℕ) → head < done + 1 → head_of heads head ≡ head → IsGroupOf m heads a b head → has queue head ≡ true
       all head lt fixed its = elim (cases_eq head done) [
@@ -69,7 +75,7 @@ module _ (m : Mill) (heads : List ℕ) (a b done : ℕ) (queue : List ℕ) (is :
   queue_length = omega (arith, Rises-length 0 done queue (omega arith) is.rises)
 
 pub queue_none : (m : Mill) (heads : List ℕ) (a b : ℕ) → IsQueueTo m heads a b 0 []
-queue_none m heads a b = record { rises = tt; of = λ head e. absurd (both_ways (has [] head) refl e); all = λ head lt fixed its. absurd (omega arith) }
+queue_none m heads a b = record { rises = tt; own = λ head e. absurd (both_ways (has [] head) refl e); of = λ head e. absurd (both_ways (has [] head) refl e); all = λ head lt fixed its. absurd (omega arith) }
 
 and_both : (a b : Bool) → (a && b) ≡ true → (a ≡ true) × (b ≡ true)
 and_both true b e = (refl, e)

@@ -1,5 +1,5 @@
 -- The steps of the walk over the groups of a queue.
-use Rattle.std.proofs.Common.{◌≡◌, ℕ, ◌+◌, ◌*◌, ◌^◌, ◌<◌, ◌≤◌, ℤ, pos, ◌+ℤ◌, ◌≤ℤ◌, true, List, [], ◌∷◌, ◌++◌, length, get_or, map, take, drop, ◌-◌, refl, ap, subst, sym, inl, inr, ◌⊎◌, ◌∙◌, arith, append_assoc, append-nil, sum_by}
+use Rattle.std.proofs.Common.{◌≡◌, ℕ, ◌+◌, ◌*◌, ◌^◌, ◌<◌, ◌≤◌, ℤ, pos, ◌+ℤ◌, ◌≤ℤ◌, Bool, true, List, [], ◌∷◌, ◌++◌, length, get_or, map, take, drop, ◌-◌, refl, ap, subst, sym, inl, inr, ◌⊎◌, ◌∙◌, arith, append_assoc, append-nil, sum_by}
 use Rattle.std.specs.Prelude.{unsigned_abs}
 use Rattle.std.specs.List.{AllByRecursion}
 use Rattle.std.proofs.lemmas.Int.{ints}
@@ -11,19 +11,20 @@ use Rattle.mill_model.specs.declared.kind.Kind.{Kind}
 use Rattle.mill_model.specs.Mill.{Mill}
 use Rattle.mill_model.specs.SignedSums.{total_by}
 use Rattle.mill_model.specs.Columns.{order_at, load, size_of, IsInStock, IsLegalColumn, Rises, has, colours_of}
-use Rattle.mill_model.specs.Decisions.{Decision}
+use Rattle.mill_model.specs.Decisions.{Decision, column_agrees}
 use Rattle.mill_model.specs.Groups.{members}
 use Rattle.mill_model.specs.Prices.{Prices}
-use Rattle.mill_model.proofs.Judging.{different_within}
+use Rattle.mill_model.proofs.Judging.{different_within, has-append}
 use Rattle.mill_model.proofs.Signed.{total_by-append}
-use Rattle.mill_model.proofs.Groups.{members_rise}
+use Rattle.mill_model.proofs.Groups.{members_rise, has-members}
 use Rattle.price_check.specs.Gains.{gains_of}
 use Rattle.price_check.specs.Groupings.{Groups, AreGroups, weight_at, gain_at}
 use Rattle.price_check.specs.Parts.{IsPart}
 use Rattle.price_check.specs.Search.{IsOf, IsQueue, IsClear, AreTaken, AreChosen, IsPricedOn}
+use Rattle.price_check.specs.Apartness.{AreApart, IsApart}
 use Rattle.price_check.specs.Bounds.{IsBound}
 use Rattle.price_check.proofs.Pricing.{priced_from_gains}
-use Rattle.price_check.proofs.Parts.{part-append, part-skip, part-push, part-length, part-rises, part-has, part-nil, members_from_all}
+use Rattle.price_check.proofs.Parts.{part-append, part-skip, part-push, part-length, part-rises, part-has, part-nil, members_from_all, has_first, has_at, has_below}
 
 module _ (m : Mill) (decisions : List Decision) (p : Prices) (g : Groups) (queue : List ℕ) where
   -- a group that is left out, and what holds where it is taken
@@ -48,6 +49,12 @@ module _ (m : Mill) (decisions : List Decision) (p : Prices) (g : Groups) (queue
   module _ (at weight : ℕ) (gain : ℤ) (chosen : List ℕ) (taken : AreTaken g queue at weight gain chosen) where
     part_with : (more : List ℕ) → IsPart (drop at queue) more → IsPart queue (chosen ++ more)
     part_with more part = subst (λ (zs : List ℕ). IsPart zs (chosen ++ more)) (take-append-drop at queue) (part-append (take at queue) (drop at queue) chosen more taken.part part)
+
+    chosen_part : IsPart queue chosen
+    chosen_part = subst (λ (zs : List ℕ). IsPart queue zs) (append-nil chosen) (part_with [] (part-nil (drop at queue)))
+
+    pub chosen_rises : (high : ℕ) → Rises 0 high queue → Rises 0 high chosen
+    chosen_rises high rises = part-rises 0 high queue chosen rises chosen_part
 
     module _ (groups : AreGroups m decisions p g) (rises : Rises 0 (length m.orders) queue) where
       load_with : (more : List ℕ) → IsPart (drop at queue) more → load m (members g.heads (chosen ++ more)) ≡ weight + sum_by (weight_at g) more
@@ -74,17 +81,32 @@ module _ (m : Mill) (decisions : List Decision) (p : Prices) (g : Groups) (queue
               let here : IsPart (drop at queue) (get_or queue at 0 ∷ more) = subst (λ (zs : List ℕ). IsPart zs (get_or queue at 0 ∷ more)) (sym (drop_more queue at 0 lt)) (inr (more, refl, part)) in
               omega (arith, heavy, legal.fits.weight, most_size kind legal.fits.kind, load_with (get_or queue at 0 ∷ more) here, sum_by-cons (weight_at g) (get_or queue at 0) more)
 
+      -- nor can it be taken where a decision keeps it apart from a chosen one
+      pub clear_apart : (a b : ℕ) (apart : List Bool) → at < length queue → IsQueue m g.heads a b queue → AreApart decisions (length m.orders) apart → IsApart (length m.orders) apart (get_or queue at 0) chosen → IsClear m decisions p g.heads (drop (at + 1) queue) chosen → IsClear m decisions p g.heads (drop at queue) chosen
+      clear_apart a b apart lt is are (other, chose, marked) without =
+          subst (λ (zs : List ℕ). IsClear m decisions p g.heads zs chosen) (sym (drop_more queue at 0 lt))
+          (clear_step (get_or queue at 0) (drop (at + 1) queue) chosen (λ more kind part legal agrees. absurd (never more kind agrees)) without)
+        where
+          member : (taken : List ℕ) (z : ℕ) → has queue z ≡ true → has taken z ≡ true → has (members g.heads taken) z ≡ true
+          member taken z queued has_it = has-members g.heads taken z (has_below 0 (length g.heads) queue z is.rises queued) ∙ ap (λ k. has taken k) (is.own z queued) ∙ has_it
+
+          never : (more : List ℕ) (kind : Kind) → column_agrees decisions (record { kind = kind; orders = members g.heads (chosen ++ get_or queue at 0 ∷ more) }) ≡ true → ⊥
+          never more kind agrees =
+              let first : has queue (get_or queue at 0) ≡ true = has_at queue at lt in
+              let second : has queue other ≡ true = part-has queue chosen chosen_part other chose in
+              are.never (get_or queue at 0) other (has_below 0 (length m.orders) queue (get_or queue at 0) rises first) (has_below 0 (length m.orders) queue other rises second) marked
+              (record { kind = kind; orders = members g.heads (chosen ++ get_or queue at 0 ∷ more) }) agrees
+              (member (chosen ++ get_or queue at 0 ∷ more) (get_or queue at 0) first (has-append chosen (get_or queue at 0 ∷ more) (get_or queue at 0) ∙ or_right (has chosen (get_or queue at 0)) (has (get_or queue at 0 ∷ more) (get_or queue at 0)) (has_first (get_or queue at 0) more)))
+              (member (chosen ++ get_or queue at 0 ∷ more) other second (has-append chosen (get_or queue at 0 ∷ more) other ∙ or_left (has chosen other) (has (get_or queue at 0 ∷ more) other) chose))
+
       -- the orders of the chosen groups, at the end of the queue
       pub chosen_orders : (a b : ℕ) → at ≡ length queue → IsQueue m g.heads a b queue → AreChosen m p a b weight gain (members g.heads chosen)
       chosen_orders a b end is = record {
         rises = subst (λ n. Rises 0 n (members g.heads chosen)) groups.room.heads (members_rise g.heads chosen);
-        colours = members_from_all (IsOf m a b) 0 g.heads chosen (λ k lt e. subst (λ o. IsOf m a b o) (omega arith) (is.of (get_or g.heads k 0) (part-has queue chosen within (get_or g.heads k 0) e) k lt refl));
+        colours = members_from_all (IsOf m a b) 0 g.heads chosen (λ k lt e. subst (λ o. IsOf m a b o) (omega arith) (is.of (get_or g.heads k 0) (part-has queue chosen chosen_part (get_or g.heads k 0) e) k lt refl));
         weight_is = let whole = load_with [] (part-nil (drop at queue)) in omega (arith, ap (λ os. load m (members g.heads os)) (append-nil chosen), whole);
         gain_is = let whole = gains_with [] (part-nil (drop at queue)) in omega (arith, ints, ap (λ os. gains_of m p (members g.heads os)) (append-nil chosen), whole);
       }
-        where
-          within : IsPart queue chosen
-          within = subst (λ (zs : List ℕ). IsPart queue zs) (append-nil chosen) (part_with [] (part-nil (drop at queue)))
 
     -- ---- what was chosen
 

@@ -8,6 +8,7 @@ pub mod Exceeding
 pub mod Gains
 pub mod Groupings
 pub mod Parts
+pub mod Apartness
 pub mod Search
 pub mod Bounds
 pub mod Hunts

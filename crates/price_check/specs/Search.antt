@@ -28,6 +28,7 @@ IsGroupOf m heads a b head = (o : ℕ) → o < length heads → head_of heads o 
 -- the heads below one of the groups all of whose orders are of two colours
 pub record IsQueueTo (m : Mill) (heads : List ℕ) (a b : ℕ) (done : ℕ) (queue : List ℕ) : Type 0 where
   pub rises : Rises 0 done queue
+  pub own : (head : ℕ) → has queue head ≡ true → head_of heads head ≡ head
   pub of : (head : ℕ) → has queue head ≡ true → IsGroupOf m heads a b head
   pub all : (head : ℕ) → head < done → head_of heads head ≡ head → IsGroupOf m heads a b head → has queue head ≡ true
 

@@ -1,6 +1,7 @@
 //! The leaves of a certificate: the path of decisions down to one, and whether its prices refute the limits there.
 #![tactic(auto)]
 
+mod apart;
 mod bad;
 mod bounds;
 mod ends;

@@ -22,6 +22,8 @@ pub(crate) struct Leaf<'a> {
     pub trail: &'a Trail,
     pub quote: &'a Quote,
     pub groups: &'a Groups,
+    /// For each two orders, whether no column has both.
+    pub apart: &'a [bool],
     /// For each colour, the sum of the positive gains of its groups.
     pub plus: &'a [i128],
     /// For each load, at least what the cheapest slab that holds it pays.
@@ -110,6 +112,7 @@ fn search_queue(
         trail: leaf.trail,
         quote: leaf.quote,
         groups: leaf.groups,
+        apart: leaf.apart,
         first,
         second,
         queue: &space.queue,

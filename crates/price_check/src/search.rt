@@ -5,6 +5,7 @@ ghost use Rattle.price_check.specs.Search.{IsClearOf, AreSet};
 ghost use Rattle.price_check.specs.Hunts.{IsLeaf};
 ghost use Rattle.price_check.specs.Spaces.{HasPairRoom, HasSpace};
 
+use crate::apart::fill_apart;
 use crate::ends::{least_cost, most_size};
 use crate::groups::Groups;
 use crate::paid::fill_paid;
@@ -19,6 +20,7 @@ use std::alloc::{AllocError, Global};
 #[derive(Drop)]
 pub(crate) struct Workspace {
     pub groups: Groups,
+    pub apart: Vec<bool>,
     pub plus: Vec<i128>,
     pub paid: Vec<i128>,
     pub pair: PairSpace,
@@ -36,12 +38,14 @@ impl Workspace {
         ensures { IfOk result (HasSpace orders) }
     {
         let groups = Groups::new(alloc, orders)?;
+        let apart = vec![in alloc; false; orders * orders]?;
         let plus = vec![in alloc; 0; 251]?;
         let paid = vec![in alloc; 0; 10001]?;
         let cells = (orders + 1) * (usize::from(size) + 1);
         let pair = PairSpace::new(alloc, orders, cells.min(MOST_CELLS))?;
         Ok(Workspace {
             groups,
+            apart,
             plus,
             paid,
             pair,
@@ -113,6 +117,7 @@ pub(crate) fn search(
     prove!(few <= 250);
     let room = usize::from(most_size(mill));
     workspace.groups.form(mill, trail, quote);
+    fill_apart(trail, workspace.groups.heads(), &mut workspace.apart);
     fill_plus(mill, &workspace.groups, &mut workspace.plus);
     fill_paid(mill, quote, room, &mut workspace.paid);
     let leaf = Leaf {
@@ -120,6 +125,7 @@ pub(crate) fn search(
         trail,
         quote,
         groups: &workspace.groups,
+        apart: &workspace.apart,
         plus: &workspace.plus,
         paid: &workspace.paid,
         floor: least_cost(mill, quote),

@@ -1,10 +1,12 @@
 //! The walk over the columns of two colours, group by group.
-ghost use Rattle.std.specs.Prelude.{◌≡◌, ◌+◌, ◌*◌, ◌/◌, ◌^◌, ◌<◌, ◌≤◌, ℕ, ℤ, pos, ◌+ℤ◌, ◌≤ℤ◌, unsigned_abs, IfNone, IfSome, length, drop, slice_index_or, vec_capacity};
+ghost use Rattle.std.specs.Prelude.{◌≡◌, ◌+◌, ◌*◌, ◌/◌, ◌^◌, ◌<◌, ◌≤◌, ◌⊎◌, ℕ, ℤ, pos, ◌+ℤ◌, ◌≤ℤ◌, unsigned_abs, IfNone, IfSome, length, drop, slice_index_or, vec_capacity};
 ghost use Rattle.std.specs.Bool.{OnTrue, OnFalse};
+ghost use Rattle.mill_model.specs.Columns.{Rises};
 ghost use Rattle.mill_model.specs.Groups.{members};
 ghost use Rattle.price_check.specs.Groupings.{weight_at, gain_at};
 ghost use Rattle.price_check.specs.Exceeding.{IsExceeding};
 ghost use Rattle.price_check.specs.Search.{AreTaken, AreChosen, IsClear, IsPricedOn};
+ghost use Rattle.price_check.specs.Apartness.{IsApart};
 ghost use Rattle.price_check.specs.Bounds.{IsBound};
 ghost use Rattle.price_check.specs.Hunts.{IsHunt};
 
@@ -22,6 +24,8 @@ pub(crate) struct Hunt<'a> {
     pub trail: &'a Trail,
     pub quote: &'a Quote,
     pub groups: &'a Groups,
+    /// For each two orders, whether no column has both.
+    pub apart: &'a [bool],
     pub first: u16,
     pub second: u16,
     /// The heads of the groups of the two colours.
@@ -131,19 +135,46 @@ fn most(hunt: &Hunt<'_>, at: usize, weight: u32) -> i128
     hunt.cells[at * hunt.width + column]
 }
 
-// The weight and the gain with one group more, if some slab holds it too.
-fn with_group(hunt: &Hunt<'_>, at: usize, weight: u32, gain: i128) -> Option<(u32, i128)>
+// Whether a group is kept apart from one that was chosen.
+fn is_apart(hunt: &Hunt<'_>, head: u16, chosen: &[u16]) -> bool
     requires hunt { IsHunt hunt.now }
+    requires head { head < length hunt.now.mill.now.orders }
+    requires chosen { Rises 0 (length hunt.now.mill.now.orders) chosen.now }
+    ensures { OnTrue result (IsApart (length hunt.now.mill.now.orders) hunt.now.apart.now head chosen.now) }
+{
+    let orders = hunt.mill.orders().len();
+    let start = usize::from(head) * orders;
+    for other in chosen {
+        if hunt.apart[start + usize::from(*other)] {
+            return true;
+        }
+    }
+    false
+}
+
+// The weight and the gain with one group more, if some slab holds it too and no decision keeps it apart.
+fn with_group(
+    hunt: &Hunt<'_>,
+    at: usize,
+    weight: u32,
+    gain: i128,
+    chosen: &[u16],
+) -> Option<(u32, i128)>
+    requires hunt { IsHunt hunt.now }
+    requires taken { AreTaken hunt.now.groups.now hunt.now.queue.now at weight gain chosen.now }
     requires at { at < length hunt.now.queue.now }
     requires light { weight ≤ hunt.now.room }
-    requires small { unsigned_abs gain ≤ at * 2 ^ 84 }
-    ensures none { IfNone result (hunt.now.room < weight + weight_at hunt.now.groups.now (slice_index_or hunt.now.queue.now at 0)) }
+    ensures none { IfNone result ((hunt.now.room < weight + weight_at hunt.now.groups.now (slice_index_or hunt.now.queue.now at 0)) ⊎ IsApart (length hunt.now.mill.now.orders) hunt.now.apart.now (slice_index_or hunt.now.queue.now at 0) chosen.now) }
     ensures light { IfSome result (λ sums. sums.0 ≤ hunt.now.room) }
     ensures weight { IfSome result (λ sums. sums.0 ≡ weight + weight_at hunt.now.groups.now (slice_index_or hunt.now.queue.now at 0)) }
     ensures gain { IfSome result (λ sums. sums.1 ≡ gain +ℤ gain_at hunt.now.groups.now (slice_index_or hunt.now.queue.now at 0)) }
     ensures small { IfSome result (λ sums. unsigned_abs sums.1 ≤ (at + 1) * 2 ^ 84) }
 {
-    let head = usize::from(hunt.queue[at]);
+    let next = hunt.queue[at];
+    if is_apart(hunt, next, chosen) {
+        return None;
+    }
+    let head = usize::from(next);
     let heavier = weight + hunt.groups.weight(head);
     if heavier as usize > hunt.room {
         return None;
@@ -208,7 +239,7 @@ pub(crate) fn walk(
     if at == hunt.queue.len() {
         return offer_groups(hunt, weight, gain, chosen, orders);
     }
-    let Some((heavier, richer)) = with_group(hunt, at, weight, gain) else {
+    let Some((heavier, richer)) = with_group(hunt, at, weight, gain, chosen) else {
         return walk(hunt, at + 1, weight, gain, chosen, orders);
     };
     chosen.push_reserved(hunt.queue[at]);

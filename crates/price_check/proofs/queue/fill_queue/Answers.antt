@@ -15,7 +15,7 @@ pub loop-order-preserved : goal.loop-order-preserved
 loop-order-preserved c = elim c.if-heads-order.branch [
   | then-heads-order+then-is_group_of w ↦ record {
     queue = subst (λ (os : List ℕ). IsQueueTo c.args.mill.now c.args.heads.now c.args.first c.args.second (c.loop-order.order + 1) os) (sym (ap (λ v. v.items) w.queue-is ∙ w.push_reserved.ensures.items))
-        (queue_push c.args.mill.now c.args.heads.now c.args.first c.args.second c.loop-order.order c.loop-order.queue.items c.loop-order.invariant.queue (w.is_group_of.ensures.0 w.if-is_group_of.true));
+        (queue_push c.args.mill.now c.args.heads.now c.args.first c.args.second c.loop-order.order c.loop-order.queue.items c.loop-order.invariant.queue w.if-heads-order.true (w.is_group_of.ensures.0 w.if-is_group_of.true));
     capacity = ap vec_capacity w.queue-is ∙ w.push_reserved.ensures.capacity ∙ c.loop-order.invariant.capacity;
   }
   | else-heads-order w ↦ record {

@@ -1,4 +1,4 @@
-use Rattle.std.proofs.Common.{rules, ℕ, ◌≡◌, ◌+◌, ◌*◌, ◌^◌, ◌<◌, ◌≤◌, arith, ap, sym, subst, ◌∙◌, List, ◌∷◌, [], ◌++◌, length, get_or, drop, to_z, of_z}
+use Rattle.std.proofs.Common.{rules, ℕ, ◌≡◌, ◌+◌, ◌*◌, ◌^◌, ◌<◌, ◌≤◌, arith, inl, inr, ap, sym, subst, ◌∙◌, List, ◌∷◌, [], ◌++◌, length, get_or, drop, to_z, of_z}
 use Rattle.std.specs.Prelude.{ℤ, pos, ◌+ℤ◌, ◌≤ℤ◌, unsigned_abs}
 use Rattle.std.specs.Int.{w128}
 use Rattle.std.proofs.lemmas.Int.{ints}
@@ -6,10 +6,11 @@ use Rattle.std.proofs.lemmas.Bool.{OnTrue_at}
 use Rattle.mill_model.specs.Columns.{Rises}
 use Rattle.price_check.specs.Groupings.{weight_at, gain_at}
 use Rattle.price_check.specs.Search.{AreTaken, IsClear}
+use Rattle.price_check.specs.Apartness.{IsApart}
 use Rattle.price_check.proofs.Options.{none_weaker, none_at}
 use Rattle.price_check.proofs.Sums.{back_small}
 use Rattle.price_check.proofs.Queues.{Rises-length}
-use Rattle.price_check.proofs.Walks.{clear_pruned, clear_heavy, clear_both, clear_end, taken_skip, taken_push, taken_length, popped}
+use Rattle.price_check.proofs.Walks.{clear_pruned, clear_heavy, clear_apart, clear_both, clear_end, taken_skip, taken_push, taken_length, popped}
 use Rattle.price_check.proofs.walk.+walk.Goals as goal
 
 pub returns-then-cannot_gain-clause-none : goal.returns-then-cannot_gain-clause-none
@@ -33,7 +34,10 @@ returns-in_default-clause-none t c =
     let lt : c.args.at < length c.args.hunt.now.queue.now = omega (arith, c.requires.taken.within, c.if-at-hunt.false) in
     let rises : Rises 0 (length c.args.hunt.now.mill.now.orders) c.args.hunt.now.queue.now = subst (λ n. Rises 0 n c.args.hunt.now.queue.now) c.requires.hunt.groups.room.heads c.requires.hunt.queue.rises in
     none_weaker c.walk.result _ _
-    (λ without. clear_heavy c.args.hunt.now.mill.now c.args.hunt.now.trail.now.decisions c.args.hunt.now.quote.now c.args.hunt.now.groups.now c.args.hunt.now.queue.now c.args.at c.args.weight c.args.gain c.args.chosen.now.items c.requires.taken c.requires.hunt.groups rises c.args.hunt.now.room lt c.requires.hunt.most_size c.in_default.ensures.none without)
+    (λ without. elim c.in_default.ensures.none [
+      | inl heavy ↦ clear_heavy c.args.hunt.now.mill.now c.args.hunt.now.trail.now.decisions c.args.hunt.now.quote.now c.args.hunt.now.groups.now c.args.hunt.now.queue.now c.args.at c.args.weight c.args.gain c.args.chosen.now.items c.requires.taken c.requires.hunt.groups rises c.args.hunt.now.room lt c.requires.hunt.most_size heavy without
+      | inr apart ↦ clear_apart c.args.hunt.now.mill.now c.args.hunt.now.trail.now.decisions c.args.hunt.now.quote.now c.args.hunt.now.groups.now c.args.hunt.now.queue.now c.args.at c.args.weight c.args.gain c.args.chosen.now.items c.requires.taken c.requires.hunt.groups rises c.args.hunt.now.first c.args.hunt.now.second c.args.hunt.now.apart.now lt c.requires.hunt.queue c.requires.hunt.apart (subst (λ (os : List ℕ). IsApart (length c.args.hunt.now.mill.now.orders) c.args.hunt.now.apart.now (get_or c.args.hunt.now.queue.now c.args.at 0) os) c.deref-2.ensures.value apart) without
+    ])
     c.walk.ensures.none
 
 pub push_reserved-requires : goal.push_reserved-requires
