@@ -5,12 +5,16 @@ pub mod Reversed
 pub mod Quotes
 pub mod Sums
 pub mod Pricing
+pub mod Parts
+pub mod Apartness
 pub mod Walks
 pub mod Groupings
 pub mod Offers
 pub mod ColourPairs
-pub mod Suffixes
+pub mod Rows
+pub mod Colours
 pub mod Options
+pub mod Queues
 pub mod Searches
 pub mod Stock
 pub mod LeafRules

@@ -17,10 +17,10 @@ use Rattle.price_check.specs.Search.{AreChosen, IsPricedOn}
 use Rattle.price_check.proofs.Pricing.{priced_from_gains, gains_from_priced}
 use Rattle.price_check.proofs.Walks.{chosen_legal}
 
-module _ (m : Mill) (decisions : List Decision) (p : Prices) (a b weight : ℕ) (gain : ℤ) (chosen : List ℕ) (at : AreChosen m p a b (length m.orders) weight gain chosen) where
+module _ (m : Mill) (decisions : List Decision) (p : Prices) (a b weight : ℕ) (gain : ℤ) (chosen : List ℕ) (at : AreChosen m p a b weight gain chosen) where
   pub exceeding : (kind : Kind) → 0 < length chosen → IsInStock m kind → weight ≤ size_of m kind → cost_of m p kind <ℤ gain → column_agrees decisions (record { kind = kind; orders = chosen }) ≡ true → IsLeast m (load m chosen) kind → IsExceeding m decisions p (record { kind = kind; orders = chosen })
   exceeding kind some stock fits above agrees least = record {
-    legal = chosen_legal m decisions p a b weight gain chosen kind at some stock fits;
+    legal = chosen_legal m p a b weight gain chosen kind at some stock fits;
     agrees = agrees;
     exceeds = λ priced. let le : gains_of m p chosen ≤ℤ cost_of m p kind = gains_from_priced m p (record { kind = kind; orders = chosen }) (omega (arith, at.weight_is, fits)) priced in omega (arith, ints, le, above, at.gain_is);
     least = least;

@@ -6,7 +6,12 @@ pub mod Numbers
 pub mod Rules
 pub mod Exceeding
 pub mod Gains
+pub mod Groupings
+pub mod Parts
+pub mod Apartness
 pub mod Search
+pub mod Bounds
+pub mod Hunts
+pub mod Spaces
 pub mod Sizes
 pub mod Leaves
-pub mod Groupings

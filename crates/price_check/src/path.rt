@@ -13,7 +13,8 @@ ghost use Rattle.price_check.specs.Exceeding.{IsExceeding};
 use crate::bad::Bad;
 use crate::quote::Quote;
 use crate::rules::{has_limits, has_signs, is_worth};
-use crate::search::search;
+use crate::ends::most_size;
+use crate::search::{Workspace, search};
 use crate::trail::Trail;
 use cert_view::Nums;
 use mill_model::{Ask, Kind, Limits, Mill};
@@ -27,8 +28,8 @@ use std::marker::Model;
 pub struct Path {
     trail: Trail,
     quote: Quote,
-    rest: Vec<i128>,
-    chosen: Vec<u16>,
+    workspace: Workspace,
+    orders: Vec<u16>,
     bad: Option<Kind>,
 }
 
@@ -40,9 +41,9 @@ impl Model for Path {
     ghost use Rattle.std.specs.Vec.{vec_capacity};
     ghost use Rattle.price_check.specs.Leaves.{seen_path, IsReady};
 
-    ghost view = { λ p. seen_path p.trail p.bad p.chosen.items };
+    ghost view = { λ p. seen_path p.trail p.bad p.orders.items };
 
-    ghost invariant = { λ p. IsReady p.trail p.quote p.rest.items (vec_capacity p.chosen) };
+    ghost invariant = { λ p. IsReady p.trail p.quote p.workspace (vec_capacity p.orders) };
 }
 
 impl Path {
@@ -50,7 +51,9 @@ impl Path {
 
     /// An empty path for a mill of n orders and S surplus slabs. It takes all the memory that a path ever takes: for each
     /// of the n(n-1)/2 + n*S questions a decision (at most 8 bytes) and a mark (one byte), for each price 8 bytes, for each
-    /// order a bound (16 bytes, and 16 more) and a place in a column (2 bytes): less than 380 KB at the limits.
+    /// order 28 bytes, for each of 251 colours and of 10,001 loads 16 bytes, and a bound (16 bytes) for each order and one
+    /// more at each load up to the largest size, but at most 1,048,576 bounds: less than 17.5 MB at the limits, less than
+    /// 550 KB without the bounds.
     pub fn new(alloc: Global, mill: &Mill) -> Result<Path, AllocError>
         ensures { IfOk result (λ p. p ≡ record { orders = length mill.now.orders; slabs = length mill.now.yard; decisions = []; bad = None }) }
     {
@@ -58,13 +61,13 @@ impl Path {
         let slabs = mill.yard().len();
         let trail = Trail::new(alloc, orders, slabs)?;
         let quote = Quote::new(alloc, orders, slabs)?;
-        let rest = vec![in alloc; 0; orders + 1]?;
-        let chosen = Vec::with_capacity(alloc, orders)?;
+        let workspace = Workspace::new(alloc, orders, most_size(mill))?;
+        let places = Vec::with_capacity(alloc, orders)?;
         Ok(Path {
             trail,
             quote,
-            rest,
-            chosen,
+            workspace,
+            orders: places,
             bad: None,
         })
     }
@@ -142,8 +145,8 @@ impl Path {
             mill,
             &self.trail,
             &self.quote,
-            &mut self.rest,
-            &mut self.chosen,
+            &mut self.workspace,
+            &mut self.orders,
         );
         if self.bad.is_some() {
             return Err(Bad::Column);
@@ -158,7 +161,7 @@ impl Path {
         ensures { self.now.bad ≡ Some (record { kind = result.0; orders = result.1.now }) }
     {
         match self.bad {
-            Some(kind) => (kind, &self.chosen),
+            Some(kind) => (kind, &self.orders),
             None => unreachable!(),
         }
     }

@@ -15,12 +15,12 @@ cost_of_new-requires c =
 pub returns-then-gain-cost_of_new-clause-none : goal.returns-then-gain-cost_of_new-clause-none
 returns-then-gain-cost_of_new-clause-none c =
     let least : IsLeastSize c.args.hunt.now.mill.now.sizes c.args.weight c.in_ok-size.size = rw c.sizes.ensures.value at c.in_ok-size.ensures.some in
-    least_decides c.args.hunt.now.mill.now c.args.hunt.now.trail.now.decisions c.args.hunt.now.quote.now c.args.hunt.now.first c.args.hunt.now.second c.args.weight c.args.gain c.args.chosen.now c.requires.chosen
-    c.in_ok-size.size least c.requires.hunt.lambda_sign (omega (arith, ints, c.ranges.gain, c.cost_of_new.ensures.value, c.cost_of_new.ensures.small, c.if-gain-cost_of_new.true))
+    least_decides c.args.hunt.now.mill.now c.args.hunt.now.trail.now.decisions c.args.hunt.now.quote.now c.args.hunt.now.first c.args.hunt.now.second c.args.weight c.args.gain c.args.orders.now c.requires.chosen
+    c.in_ok-size.size least c.requires.hunt.set.lambda_sign (omega (arith, ints, c.ranges.gain, c.cost_of_new.ensures.value, c.cost_of_new.ensures.small, c.if-gain-cost_of_new.true))
 
 pub returns-clause-some : goal.returns-clause-some
 returns-clause-some c =
     let least : IsLeastSize c.args.hunt.now.mill.now.sizes c.args.weight c.in_ok-size.size = rw c.sizes.ensures.value at c.in_ok-size.ensures.some in
-    exceeding c.args.hunt.now.mill.now c.args.hunt.now.trail.now.decisions c.args.hunt.now.quote.now c.args.hunt.now.first c.args.hunt.now.second c.args.weight c.args.gain c.args.chosen.now c.requires.chosen
+    exceeding c.args.hunt.now.mill.now c.args.hunt.now.trail.now.decisions c.args.hunt.now.quote.now c.args.hunt.now.first c.args.hunt.now.second c.args.weight c.args.gain c.args.orders.now c.requires.chosen
     (New c.in_ok-size.size) c.requires.some least.listed least.holds (omega (arith, ints, c.ranges.gain, c.cost_of_new.ensures.value, c.cost_of_new.ensures.small, c.if-gain-cost_of_new.false)) (sym c.agrees.ensures.value ∙ c.if-not-agrees.false)
-    (least_is c.args.hunt.now.mill.now c.args.hunt.now.trail.now.decisions c.args.hunt.now.quote.now c.args.hunt.now.first c.args.hunt.now.second c.args.weight c.args.gain c.args.chosen.now c.requires.chosen c.in_ok-size.size least)
+    (least_is c.args.hunt.now.mill.now c.args.hunt.now.trail.now.decisions c.args.hunt.now.quote.now c.args.hunt.now.first c.args.hunt.now.second c.args.weight c.args.gain c.args.orders.now c.requires.chosen c.in_ok-size.size least)
