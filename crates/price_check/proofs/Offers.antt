@@ -10,8 +10,8 @@ use Rattle.mill_model.specs.Columns.{load, size_of, IsInStock}
 use Rattle.mill_model.specs.Decisions.{Decision, column_agrees}
 use Rattle.mill_model.specs.Prices.{Prices}
 use Rattle.mill_model.proofs.Sizes.{column_agrees_any_size, priced_larger}
-use Rattle.price_check.specs.Gains.{gains_of, cost_of}
-use Rattle.price_check.specs.Sizes.{IsLeastSize}
+use Rattle.mill_model.specs.Gains.{gains_of, cost_of}
+use Rattle.mill_model.specs.LeastSizes.{IsLeastSize}
 use Rattle.price_check.specs.Exceeding.{IsLeast, IsExceeding}
 use Rattle.price_check.specs.Search.{AreChosen, IsPricedOn}
 use Rattle.price_check.proofs.Pricing.{priced_from_gains, gains_from_priced}

@@ -14,8 +14,8 @@ use Rattle.mill_model.specs.Prices.{Prices}
 use Rattle.mill_model.proofs.Judging.{has-append}
 use Rattle.mill_model.proofs.Rising.{Rises-push}
 use Rattle.mill_model.proofs.Groups.{heads_in_rise, has-heads_in, whole_groups, members_from-push, members_rise}
-use Rattle.price_check.specs.Gains.{gains_of}
-use Rattle.price_check.specs.Groupings.{Groups, AreGroups, gain_at}
+use Rattle.mill_model.specs.Gains.{gains_of}
+use Rattle.mill_model.specs.Groupings.{Groups, AreGroups, gain_at}
 use Rattle.price_check.specs.Parts.{IsPart}
 use Rattle.price_check.specs.Search.{IsOf, IsGroupOf, AreFrom, IsQueueTo, IsQueue, IsClear, IsClearOf, IsPricedOn, AreEnds}
 use Rattle.price_check.specs.Bounds.{both_at, ArePlusFrom}

@@ -17,8 +17,8 @@ use Rattle.mill_model.specs.Prices.{Prices}
 use Rattle.mill_model.proofs.Judging.{different_within, has-append}
 use Rattle.mill_model.proofs.Signed.{total_by-append}
 use Rattle.mill_model.proofs.Groups.{members_rise, has-members}
-use Rattle.price_check.specs.Gains.{gains_of}
-use Rattle.price_check.specs.Groupings.{Groups, AreGroups, weight_at, gain_at}
+use Rattle.mill_model.specs.Gains.{gains_of}
+use Rattle.mill_model.specs.Groupings.{Groups, AreGroups, weight_at, gain_at}
 use Rattle.price_check.specs.Parts.{IsPart}
 use Rattle.price_check.specs.Search.{IsOf, IsQueue, IsClear, AreTaken, AreChosen, IsPricedOn}
 use Rattle.price_check.specs.Apartness.{AreApart, IsApart}

@@ -5,7 +5,6 @@ pub mod Kinds
 pub mod Numbers
 pub mod Rules
 pub mod Exceeding
-pub mod Gains
 pub mod Groupings
 pub mod Parts
 pub mod Apartness
@@ -13,5 +12,4 @@ pub mod Search
 pub mod Bounds
 pub mod Hunts
 pub mod Spaces
-pub mod Sizes
 pub mod Leaves

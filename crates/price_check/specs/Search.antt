@@ -8,8 +8,8 @@ use Rattle.mill_model.specs.Columns.{order_at, IsInStock, size_of, IsLegalColumn
 use Rattle.mill_model.specs.Decisions.{Decision, column_agrees}
 use Rattle.mill_model.specs.Groups.{head_of, members}
 use Rattle.mill_model.specs.Prices.{Prices, IsPriced}
-use Rattle.price_check.specs.Gains.{gains_of, cost_of}
-use Rattle.price_check.specs.Groupings.{Groups, weight_at, gain_at}
+use Rattle.mill_model.specs.Gains.{gains_of, cost_of}
+use Rattle.mill_model.specs.Groupings.{Groups, weight_at, gain_at}
 use Rattle.price_check.specs.Parts.{IsPart}
 
 -- the order is of one of two colours

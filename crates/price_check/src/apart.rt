@@ -4,7 +4,7 @@ ghost use Rattle.mill_model.specs.declared.ask.Ask.{Ask};
 ghost use Rattle.mill_model.specs.Columns.{Column};
 ghost use Rattle.mill_model.specs.Decisions.{Decision, agrees, column_agrees};
 ghost use Rattle.mill_model.specs.Groups.{AreHeads};
-ghost use Rattle.price_check.specs.Groupings.{AreBefore};
+ghost use Rattle.mill_model.specs.Groupings.{AreBefore};
 ghost use Rattle.price_check.specs.Apartness.{AreApart};
 
 use crate::trail::Trail;

@@ -1,6 +1,6 @@
 //! The least size that holds a load.
 ghost use Rattle.std.specs.Prelude.{List, ℕ, [], ◌∷◌, ◌++◌};
-ghost use Rattle.price_check.specs.Sizes.{IsAnswer};
+ghost use Rattle.mill_model.specs.LeastSizes.{IsAnswer};
 
 // The lesser of the least size so far and one more size, of those that hold the weight.
 fn lesser(found: Option<u16>, size: u16, weight: u32) -> Option<u16>

@@ -3,7 +3,7 @@ ghost use Rattle.std.specs.Prelude.{◌≡◌, ◌+◌, ◌*◌, ◌/◌, ◌^�
 ghost use Rattle.std.specs.Bool.{OnTrue, OnFalse};
 ghost use Rattle.mill_model.specs.Columns.{Rises};
 ghost use Rattle.mill_model.specs.Groups.{members};
-ghost use Rattle.price_check.specs.Groupings.{weight_at, gain_at};
+ghost use Rattle.mill_model.specs.Groupings.{weight_at, gain_at};
 ghost use Rattle.price_check.specs.Exceeding.{IsExceeding};
 ghost use Rattle.price_check.specs.Search.{AreTaken, AreChosen, IsClear, IsPricedOn};
 ghost use Rattle.price_check.specs.Apartness.{IsApart};

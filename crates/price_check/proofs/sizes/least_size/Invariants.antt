@@ -1,5 +1,5 @@
 use Rattle.std.proofs.Common.{take}
-use Rattle.price_check.specs.Sizes.{IsAnswer}
+use Rattle.mill_model.specs.LeastSizes.{IsAnswer}
 use Rattle.price_check.proofs.sizes.least_size.Given as goal
 
 abbrev pub invariant-loop-size : goal.invariant-loop-size

@@ -3,7 +3,7 @@ use Rattle.std.proofs.lemmas.Int.{ints}
 use Rattle.std.proofs.lemmas.List.Elements.{All-contains}
 use Rattle.mill_model.specs.declared.kind.Kind.TheVariants.{New}
 use Rattle.mill_model.specs.Mill.{IsBetween}
-use Rattle.price_check.specs.Sizes.{IsLeastSize}
+use Rattle.mill_model.specs.LeastSizes.{IsLeastSize}
 use Rattle.price_check.proofs.Offers.{exceeding, least_decides, least_is}
 use Rattle.price_check.proofs.walk.offer_new.Goals as goal
 

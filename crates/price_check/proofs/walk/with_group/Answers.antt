@@ -2,7 +2,7 @@ use Rattle.std.proofs.Common.{◌≡◌, ℕ, ◌+◌, ◌*◌, ◌^◌, ◌<◌
 use Rattle.std.specs.Prelude.{unsigned_abs}
 use Rattle.std.specs.Int.{w128}
 use Rattle.std.proofs.lemmas.Int.{ints}
-use Rattle.price_check.specs.Groupings.{gain_at}
+use Rattle.mill_model.specs.Groupings.{gain_at}
 use Rattle.mill_model.specs.Columns.{Rises}
 use Rattle.price_check.proofs.Walks.{chosen_rises}
 use Rattle.price_check.proofs.Parts.{rising_at}
