@@ -3,7 +3,6 @@ use Rattle.std.specs.Prelude.{nat_lt}
 use Rattle.std.specs.Fmt.{digits}
 use Rattle.mill_read.specs.declared.fault.Why.{Why}
 use Rattle.mill_read.specs.declared.fault.Why.TheVariants.{Missing, NotNumber, Range, Colour, Extra}
-use Rattle.mill_read.specs.declared.fault.TextFault.{TextFault}
 use Rattle.mill_read.specs.Reading.{number_at, list_at}
 use Rattle.mill_read.specs.OrderFile.{order_at, mill_at, order_file}
 use Rattle.slab_front.specs.declared.texts.Source.TheVariants.{Orders}
