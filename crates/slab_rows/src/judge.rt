@@ -1,16 +1,14 @@
 use crate::desk::Files;
 use crate::rows::judged_rows;
+use crate::runs::run_judged;
 use std::test::Fail;
 
 #[test]
 fn a_plan_is_judged(rt: HostRuntime) -> Result<(), Fail> {
-    for row in judged_rows() {
-        let files = Files {
-            orders: row.0,
-            plan: row.1,
-            yard: "",
-        };
-        files.answer(&rt, rt.alloc(), "judge orders plan", row.2, row.3)?;
+    for row in &judged_rows() {
+        let ended = run_judged(rt.alloc(), row)?;
+        assert_eq!(rt; ended.said.as_slice(), row.3.as_bytes(), "{}", row.1);
+        assert_eq!(rt; ended.status, row.2, "{}", row.1);
     }
     Ok(())
 }

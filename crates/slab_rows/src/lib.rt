@@ -6,6 +6,7 @@
 mod certificates;
 #[cfg(test)]
 mod desk;
+pub mod desks;
 #[cfg(test)]
 mod faults;
 #[cfg(test)]

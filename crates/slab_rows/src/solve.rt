@@ -1,5 +1,6 @@
 use crate::desk::Files;
 use crate::rows::refused_rows;
+use crate::runs::run_refused;
 use std::test::Fail;
 
 #[test]
@@ -41,13 +42,10 @@ fn a_mill_has_its_front(rt: HostRuntime) -> Result<(), Fail> {
 
 #[test]
 fn an_order_file_has_a_first_fault(rt: HostRuntime) -> Result<(), Fail> {
-    for row in refused_rows() {
-        let files = Files {
-            orders: row.0,
-            plan: "",
-            yard: "",
-        };
-        files.answer(&rt, rt.alloc(), "solve orders", 2, row.1)?;
+    for row in &refused_rows() {
+        let ended = run_refused(rt.alloc(), row)?;
+        assert_eq!(rt; ended.said.as_slice(), row.1.as_bytes());
+        assert_eq!(rt; ended.status, 2, "{}", row.1);
     }
     Ok(())
 }

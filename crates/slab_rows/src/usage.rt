@@ -1,16 +1,13 @@
-use crate::desk::Files;
 use crate::rows::unread_rows;
+use crate::runs::run_unread;
 use std::test::Fail;
 
 #[test]
 fn words_that_can_not_stand_are_named(rt: HostRuntime) -> Result<(), Fail> {
-    let files = Files {
-        orders: b"1 10 1 0".as_slice(),
-        plan: "0",
-        yard: "0",
-    };
-    for row in unread_rows() {
-        files.answer(&rt, rt.alloc(), row.0, 1, row.1)?;
+    for row in &unread_rows() {
+        let ended = run_unread(rt.alloc(), row)?;
+        assert_eq!(rt; ended.said.as_slice(), row.1.as_bytes(), "{}", row.0);
+        assert_eq!(rt; ended.status, 1, "{}", row.0);
     }
     Ok(())
 }
