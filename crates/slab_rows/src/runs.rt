@@ -1,6 +1,6 @@
 //! Runs of the program over a desk in memory.
 
-ghost use Rattle.std.specs.Prelude.{◌≡◌, ◌<◌, length, map, IfOk};
+ghost use Rattle.std.specs.Prelude.{◌≡◌, map, IfOk};
 ghost use Rattle.std.specs.String.{string_bytes};
 ghost use Rattle.slab_front.specs.Owed.{Owes, Ran};
 ghost use Rattle.slab_rows.specs.Ends.{EndsSo, EndsAsOwed};
