@@ -5,9 +5,10 @@ set -eu
 cd "$(dirname "$0")/../crates/bench_parts"
 rt run -- master 4 6 3 7 >/dev/null
 program="$PWD/out/bench_parts"
+data="$PWD/../../bench/data"
 TIMEFORMAT=%U
 
-# seconds PART SIZE COUNT TIMES: the seconds, then what was said
+# seconds WORD..: the seconds of a run with these words and seed 1, then what was said
 seconds() {
     local said clock
     said=$(mktemp)
@@ -16,6 +17,18 @@ seconds() {
     cat "$said"
     rm -f "$said"
 }
+
+# extra PART FILE TIMES: the seconds beyond those of a run that only sets up, then what was said
+extra() {
+    local whole setup said
+    { read -r whole; read -r said; } < <(seconds "$1" "$data/$2" "$3")
+    { read -r setup; read -r _; } < <(seconds "$1" "$data/$2" 0)
+    awk -v w="$whole" -v s="$setup" 'BEGIN { printf "%.3f\n", w - s }'
+    echo "$said"
+}
+
+# field TEXT N: its Nth word
+field() { cut -d' ' -f"$2" <<<"$1"; }
 
 rate() { awk -v n="$1" -v s="$2" 'BEGIN { printf "%.0f", n / (s > 0 ? s : 0.001) }'; }
 
@@ -43,4 +56,30 @@ for size in 10 50 111 250; do
         { read -r s; read -r said; } < <(seconds leaves "$size" "$count" "$times")
         printf '%7s %10s %6s %8s %9s  %s\n' "$size" "$count" "$times" "$s" "$(rate "$times" "$s")" "$said"
     done
+done
+
+echo "columns of greatest excess at random prices, each time under no decision and under 20 random ones:"
+printf '%-16s %6s %8s %9s  %s\n' mill times seconds calls/s said
+for work in "csplib111.txt 500" "few30c8y_0.ord 5000" "few50c8y_0.ord 1000"; do
+    read -r file times <<<"$work"
+    { read -r s; read -r said; } < <(extra price "$file" "$times")
+    printf '%-16s %6s %8s %9s  %s\n' "$file" "$times" "$s" "$(rate $((2 * times)) "$s")" "$said"
+done
+
+echo "random decisions, up to 100 a round, each after first_open, then follows of each pair of orders and allows of 8 columns:"
+printf '%-16s %6s %8s %12s %12s  %s\n' mill times seconds decisions/s calls/s said
+for work in "csplib111.txt 500" "few30c8y_0.ord 5000"; do
+    read -r file times <<<"$work"
+    { read -r s; read -r said; } < <(extra decisions "$file" "$times")
+    decided=$(($(field "$said" 2) + $(field "$said" 4)))
+    calls=$((2 * decided + $(field "$said" 6) + $(field "$said" 10)))
+    printf '%-16s %6s %8s %12s %12s  %s\n' "$file" "$times" "$s" "$(rate "$decided" "$s")" "$(rate "$calls" "$s")" "$said"
+done
+
+echo "pools of random columns of two orders, 1000 drawn for each, added and found:"
+printf '%-16s %6s %8s %12s  %s\n' mill times seconds calls/s said
+for work in "csplib111.txt 10000" "few30c8y_0.ord 10000"; do
+    read -r file times <<<"$work"
+    { read -r s; read -r said; } < <(extra pool "$file" "$times")
+    printf '%-16s %6s %8s %12s  %s\n' "$file" "$times" "$s" "$(rate $((2 * $(field "$said" 4))) "$s")" "$said"
 done

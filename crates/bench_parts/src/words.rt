@@ -1,4 +1,4 @@
-//! The words of a run: a part of the product, and the size of its work.
+//! The words of a run: a part of the product, and its work, which is of a size or on the mill of an order file.
 
 ghost use Rattle.std.specs.Prelude.{◌≤◌, IfSome};
 
@@ -20,6 +20,28 @@ pub struct Work {
     /// 2 to 292.
     pub size: u16,
     pub count: u16,
+    /// How often it is done.
+    pub times: u16,
+    /// Where the random numbers begin.
+    pub seed: u16,
+}
+
+/// What is timed on the mill of an order file.
+#[derive(Clone, Copy, Debug, PartialEq, Eq)]
+pub enum MillPart {
+    /// Pricing, at random prices.
+    Price,
+    /// Random decisions, and what follows from them.
+    Decisions,
+    /// The pool, of random columns.
+    Pool,
+}
+
+/// A part, and the file of the mill that it works on.
+#[derive(Clone, Copy, Debug)]
+pub struct MillWork<'a> {
+    pub part: MillPart,
+    pub file: &'a str,
     /// How often it is done.
     pub times: u16,
     /// Where the random numbers begin.
@@ -52,6 +74,28 @@ fn part_of(word: &str) -> Option<Part> {
         "master" => Some(Part::Master),
         "lines" => Some(Part::Lines),
         "leaves" => Some(Part::Leaves),
+        _ => None,
+    }
+}
+
+/// The work on a mill that the words name, if they name some: a part, a file, how often, and a seed.
+pub fn read_mill_work(words: &[String]) -> Option<MillWork<'_>> {
+    let [part, file, times, seed] = words else {
+        return None;
+    };
+    Some(MillWork {
+        part: mill_part_of(part.as_str())?,
+        file: file.as_str(),
+        times: number(times)?,
+        seed: number(seed)?,
+    })
+}
+
+fn mill_part_of(word: &str) -> Option<MillPart> {
+    match word {
+        "price" => Some(MillPart::Price),
+        "decisions" => Some(MillPart::Decisions),
+        "pool" => Some(MillPart::Pool),
         _ => None,
     }
 }

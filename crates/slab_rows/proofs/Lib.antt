@@ -1,0 +1,3 @@
+pub mod Owing
+pub mod TwoFiles
+pub mod Ends

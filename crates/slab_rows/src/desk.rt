@@ -1,6 +1,6 @@
 // A desk with three files, and a run over it.
+use crate::runs::run_words;
 use slab_desk::{Act, MemDesk};
-use slab_front::run;
 use std::alloc::{AllocError, Global};
 use std::process::Abort;
 use std::test::Fail;
@@ -50,7 +50,7 @@ impl Files<'_> {
         said: &str,
     ) -> Result<(), Fail> {
         let mut desk = self.desk(rt, alloc, Vec::new(alloc))?;
-        let answered = run(alloc, &split(alloc, words)?, &mut desk);
+        let answered = run_words(alloc, words, &mut desk)?;
         assert_eq!(rt; desk.said(), said.as_bytes(), "{words}");
         assert_eq!(rt; answered, status, "{words}");
         assert_eq!(rt; desk.faults(), 0, "{words}");
@@ -66,7 +66,7 @@ impl Files<'_> {
         said: &str,
     ) -> Result<(), Fail> {
         let mut desk = self.desk(rt, alloc, Vec::new(alloc))?;
-        let answered = run(alloc, &split(alloc, words)?, &mut desk);
+        let answered = run_words(alloc, words, &mut desk)?;
         assert!(rt; desk.said().starts_with(said.as_bytes()), "{words}");
         assert_eq!(rt; answered, 0, "{words}");
         Ok(())
@@ -82,23 +82,11 @@ impl Files<'_> {
         said: &str,
     ) -> Result<(), Fail> {
         let mut desk = self.desk(rt, alloc, vec![in alloc; failing]?)?;
-        let answered = run(alloc, &split(alloc, words)?, &mut desk);
+        let answered = run_words(alloc, words, &mut desk)?;
         assert_eq!(rt; desk.said(), said.as_bytes(), "{words}");
         assert_eq!(rt; answered, 5, "{words}");
         assert_eq!(rt; desk.faults(), 1, "{words}");
         assert!(rt; desk.file("none").is_none());
         Ok(())
     }
-}
-
-/// The words between single spaces.
-fn split(alloc: Global, text: &str) -> Result<Vec<String>, AllocError> {
-    let mut words = Vec::new(alloc);
-    if text.is_empty() {
-        return Ok(words);
-    }
-    for word in text.split(' ') {
-        words.push(String::from_str(alloc, word)?)?;
-    }
-    Ok(words)
 }

@@ -1,4 +1,6 @@
 use crate::desk::Files;
+use crate::rows::refused_rows;
+use crate::runs::run_refused;
 use std::test::Fail;
 
 #[test]
@@ -40,21 +42,10 @@ fn a_mill_has_its_front(rt: HostRuntime) -> Result<(), Fail> {
 
 #[test]
 fn an_order_file_has_a_first_fault(rt: HostRuntime) -> Result<(), Fail> {
-    for (orders, said) in [
-        (b"1 10 1 1 5 2".as_slice(), "input orders word 6 colour\n"),
-        (b"1 10 1 1 5".as_slice(), "input orders word 6 missing\n"),
-        (b"1 10 1 1 5 1 7".as_slice(), "input orders word 7 extra\n"),
-        (b"1 10001 1 1 5 1".as_slice(), "input orders word 2 range\n"),
-        (b"1 10 1 x 5 1".as_slice(), "input orders word 4 number\n"),
-        (b"\xff\xfe".as_slice(), "input orders word 1 number\n"),
-        (b"".as_slice(), "input orders word 1 missing\n"),
-    ] {
-        let files = Files {
-            orders,
-            plan: "",
-            yard: "",
-        };
-        files.answer(&rt, rt.alloc(), "solve orders", 2, said)?;
+    for row in &refused_rows() {
+        let ended = run_refused(rt.alloc(), row)?;
+        assert_eq!(rt; ended.said.as_slice(), row.1.as_bytes());
+        assert_eq!(rt; ended.status, 2, "{}", row.1);
     }
     Ok(())
 }

@@ -1,0 +1,101 @@
+//! Pricing: the column of greatest excess.
+
+ghost use Rattle.std.specs.Prelude.{◌≡◌, ◌+◌, ◌^◌, ◌<◌, ◌≤◌, [], pos, ◌≤ℤ◌, length, IfOk};
+ghost use Rattle.mill_model.specs.Prices.{IsPrice};
+
+use crate::random::Random;
+use crate::words::MillWork;
+use loss_table::LossTable;
+use mill_model::{Mill, Prices};
+use slab_counter::raised;
+use slab_decide::Decisions;
+use slab_price::{Found, worst};
+use std::alloc::{AllocError, Global};
+
+/// So many decisions stand where some do.
+const DECISIONS: u16 = 20;
+
+/// What pricing found, counted, with the sum of the excesses.
+#[derive(Clone, Copy, Debug)]
+pub struct Priced {
+    pub found: u64,
+    pub none: u64,
+    pub excess: i128,
+}
+
+impl Priced {
+    fn note(&mut self, answer: &Option<Found>) {
+        match answer {
+            Some(found) => {
+                self.found = raised(self.found);
+                self.excess = self.excess.wrapping_add(found.excess());
+            }
+            None => self.none = raised(self.none),
+        }
+    }
+}
+
+/// Prices a mill's columns at random prices as often as the work names, each time under no decision and under some.
+pub fn price_columns(alloc: Global, mill: &Mill, work: &MillWork<'_>) -> Result<Priced, AllocError>
+    requires orders { 2 ≤ length mill.now.orders }
+    requires yard { mill.now.yard ≡ [] }
+{
+    let mut random = Random {
+        state: u64::from(work.seed),
+    };
+    let mut priced = Priced {
+        found: 0,
+        none: 0,
+        excess: 0,
+    };
+    let table = LossTable::new(alloc, mill)?;
+    let mut decisions = Decisions::new(alloc, mill.orders().len() as u16, 0)?;
+    'rounds: for _ in 0..work.times {
+        let prices = random_prices(alloc, mill, &mut random)?;
+        decisions.reset();
+        priced.note(&worst(alloc, mill, &table, &decisions, &prices)?);
+        decide_pairs(&mut decisions, mill.orders().len() as u16, &mut random);
+        priced.note(&worst(alloc, mill, &table, &decisions, &prices)?);
+    }
+    Ok(priced)
+}
+
+/// Random prices: of loss 1 to 3, of a new slab 0 to 20, and of an order 0 to three times its weight.
+fn random_prices(alloc: Global, mill: &Mill, random: &mut Random) -> Result<Prices, AllocError>
+    requires { mill.now.yard ≡ [] }
+    ensures pi { IfOk result (λ prices. length prices.pi ≡ length mill.now.orders) }
+    ensures sigma { IfOk result (λ prices. length prices.sigma ≡ length mill.now.yard) }
+    ensures lambda { IfOk result (λ prices. pos 0 ≤ℤ prices.lambda) }
+{
+    let lambda = random_price(random, 1, 3);
+    let mu = random_price(random, 0, 21);
+    let mut pi = Vec::new(alloc);
+    'orders: for order in mill.orders() {
+        let most = order.weight.saturating_mul(3);
+        pi.push(random_price(random, 0, most.saturating_add(1)))?;
+    }
+    Ok(Prices::new(lambda, mu, pi, Vec::new(alloc)))
+}
+
+/// One of so many prices, from the least on.
+fn random_price(random: &mut Random, least: u16, count: u16) -> i64
+    requires some { 0 < count }
+    requires limit { least + count < 2 ^ 16 }
+    ensures price { IsPrice result }
+    ensures sign { pos 0 ≤ℤ result }
+{
+    i64::from(least + random.below(count))
+}
+
+/// Decides about random pairs, one in four of them together.
+fn decide_pairs(decisions: &mut Decisions, orders: u16, random: &mut Random)
+    requires count { decisions.old.orders ≡ orders }
+    requires some { 2 ≤ orders }
+    ensures orders { decisions.new.orders ≡ decisions.old.orders }
+    ensures yard { decisions.new.yard ≡ decisions.old.yard }
+{
+    'pairs: for _ in 0..DECISIONS {
+        let (i, j) = random.pair_below(orders);
+        let _ = decisions.pair(i, j, random.once_in(4));
+    }
+}
