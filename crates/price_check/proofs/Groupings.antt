@@ -1,19 +1,13 @@
 -- Orders that are joined, and groups that are weighed and priced.
-use Rattle.std.proofs.Common.{◌≡◌, ℕ, ◌+◌, ◌*◌, ◌^◌, ◌<◌, ◌≤◌, ℤ, pos, ◌+ℤ◌, Bool, true, false, cond, not, eqb, List, [], ◌∷◌, ◌++◌, length, get_or, set, take, drop, min, max, refl, sym, ap, ◌∙◌, subst, inl, inr, arith, get_or-set_same, get_or-set_other}
-use Rattle.std.specs.Prelude.{unsigned_abs}
-use Rattle.std.proofs.lemmas.Bool.{eq-eqb, ne_eqb, cond-true, cond-false, cases_eq, cases_lt, and_parts}
-use Rattle.std.proofs.lemmas.Int.{ints}
+use Rattle.std.proofs.Common.{◌≡◌, ℕ, ◌+◌, ◌<◌, Bool, true, false, cond, not, eqb, List, ◌∷◌, ◌++◌, length, get_or, set, take, drop, min, max, refl, sym, ap, ◌∙◌, subst, inl, inr, arith}
+use Rattle.std.proofs.lemmas.Bool.{eq-eqb, ne_eqb, cond-true, cond-false, cases_lt, and_parts}
 use Rattle.std.proofs.lemmas.List.{get_or_default}
 use Rattle.std.proofs.lemmas.List.Edits.{map_over_more}
 use Rattle.mill_model.specs.declared.ask.Ask.TheVariants.{Pair}
-use Rattle.mill_model.specs.Mill.{Mill}
-use Rattle.mill_model.specs.Prices.{Prices}
-use Rattle.mill_model.specs.Columns.{Column, has, order_at, load}
+use Rattle.mill_model.specs.Columns.{Column, has}
 use Rattle.mill_model.specs.Decisions.{Decision, agrees, column_agrees}
-use Rattle.mill_model.specs.Groups.{head_of, AreHeads, members}
-use Rattle.mill_model.proofs.Groups.{heads_stay, heads_renamed, total-members, sum-members, total_rising, sum_rising, AreSums, AreTotals, sums_more, totals_more, sums_all, totals_all}
-use Rattle.mill_model.specs.Gains.{gain_of, gains_of}
-use Rattle.mill_model.specs.Groupings.{Groups, AreBefore, AreWeights, AreGains, AreGroups, weight_at, gain_at}
+use Rattle.mill_model.specs.Groups.{head_of, AreHeads}
+use Rattle.mill_model.proofs.Groups.{heads_stay, heads_renamed}
 use Rattle.price_check.specs.Groupings.{renamed}
 
 -- ---- one head in the place of another, order by order

@@ -1,5 +1,5 @@
 -- Whether chosen orders exceed on a slab.
-use Rattle.std.proofs.Common.{◌≡◌, ℕ, ◌<◌, ◌≤◌, ℤ, pos, ◌≤ℤ◌, ◌<ℤ◌, true, false, List, length, ◌∙◌, arith}
+use Rattle.std.proofs.Common.{◌≡◌, ℕ, ◌<◌, ◌≤◌, ℤ, pos, ◌≤ℤ◌, ◌<ℤ◌, true, false, List, length, ◌∙◌, arith, subst}
 use Rattle.std.proofs.lemmas.Int.{ints}
 use Rattle.std.proofs.lemmas.Bool.{both_ways}
 use Rattle.std.proofs.lemmas.List.Elements.{All-contains}
@@ -11,14 +11,14 @@ use Rattle.mill_model.specs.Decisions.{Decision, column_agrees}
 use Rattle.mill_model.specs.Prices.{Prices}
 use Rattle.mill_model.proofs.Sizes.{column_agrees_any_size, priced_larger}
 use Rattle.mill_model.specs.Gains.{gains_of, cost_of}
-use Rattle.mill_model.specs.LeastSizes.{IsLeastSize}
-use Rattle.price_check.specs.Exceeding.{IsLeast, IsExceeding}
+use Rattle.mill_model.specs.LeastSizes.{IsLeastSize, IsOfLeastSize}
+use Rattle.price_check.specs.Exceeding.{IsExceeding}
 use Rattle.price_check.specs.Search.{AreChosen, IsPricedOn}
 use Rattle.price_check.proofs.Pricing.{priced_from_gains, gains_from_priced}
 use Rattle.price_check.proofs.Walks.{chosen_legal}
 
 module _ (m : Mill) (decisions : List Decision) (p : Prices) (a b weight : ℕ) (gain : ℤ) (chosen : List ℕ) (at : AreChosen m p a b weight gain chosen) where
-  pub exceeding : (kind : Kind) → 0 < length chosen → IsInStock m kind → weight ≤ size_of m kind → cost_of m p kind <ℤ gain → column_agrees decisions (record { kind = kind; orders = chosen }) ≡ true → IsLeast m (load m chosen) kind → IsExceeding m decisions p (record { kind = kind; orders = chosen })
+  pub exceeding : (kind : Kind) → 0 < length chosen → IsInStock m kind → weight ≤ size_of m kind → cost_of m p kind <ℤ gain → column_agrees decisions (record { kind = kind; orders = chosen }) ≡ true → IsOfLeastSize m (load m chosen) kind → IsExceeding m decisions p (record { kind = kind; orders = chosen })
   exceeding kind some stock fits above agrees least = record {
     legal = chosen_legal m p a b weight gain chosen kind at some stock fits;
     agrees = agrees;
@@ -43,8 +43,8 @@ module _ (m : Mill) (decisions : List Decision) (p : Prices) (a b weight : ℕ) 
   pub none_holds : ((size : ℕ) → IsInStock m (New size) → size < weight) → (size : ℕ) → IsPricedOn m decisions p chosen (New size)
   none_holds small size legal agrees = absurd (omega (arith, small size legal.fits.kind, legal.fits.weight, at.weight_is))
 
-  pub least_is : (size : ℕ) → IsLeastSize m.sizes weight size → IsLeast m (load m chosen) (New size)
-  least_is size is other listed holds = All-contains (λ u. weight ≤ u → size ≤ u) m.sizes other is.least listed (omega (arith, at.weight_is, holds))
+  pub least_is : (size : ℕ) → IsLeastSize m.sizes weight size → IsOfLeastSize m (load m chosen) (New size)
+  least_is size is = subst (λ (w : ℕ). IsLeastSize m.sizes w size) at.weight_is is
 
   pub on_each : ((size : ℕ) → IsPricedOn m decisions p chosen (New size)) → ((slab : ℕ) → slab < length m.yard → IsPricedOn m decisions p chosen (Old slab)) → (kind : Kind) → IsPricedOn m decisions p chosen kind
   on_each on_new on_old (New size) legal agrees = on_new size legal agrees

@@ -1,7 +1,6 @@
 pub mod Questions
 pub mod Path
 pub mod Marks
-pub mod Kinds
 pub mod Numbers
 pub mod Rules
 pub mod Exceeding

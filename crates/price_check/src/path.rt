@@ -5,15 +5,14 @@ ghost use Rattle.mill_model.specs.Decisions.{column_agrees};
 ghost use Rattle.mill_model.specs.Paths.{next_branch as branch_after};
 ghost use Rattle.mill_model.specs.Prices.{Refutes};
 ghost use Rattle.price_check.specs.Questions.{IsAskOf};
-ghost use Rattle.price_check.specs.Kinds.{IsKindOf};
 ghost use Rattle.price_check.specs.Numbers.{prices_of};
 ghost use Rattle.price_check.specs.Rules.{HasCount, BreaksFirst};
 ghost use Rattle.price_check.specs.Exceeding.{IsExceeding};
 
 use crate::bad::Bad;
+use crate::ends::most_size;
 use crate::quote::Quote;
 use crate::rules::{has_limits, has_signs, is_worth};
-use crate::ends::most_size;
 use crate::search::{Workspace, search};
 use crate::trail::Trail;
 use cert_view::Nums;
@@ -86,6 +85,7 @@ impl Path {
         requires { IsAskOf self.old.orders self.old.slabs ask }
         ensures stands { (result ≡ false) ↔ Contains (asks_of self.old.decisions) ask }
         ensures path { self.new ≡ record self.old { decisions = (if result then (ask, true) ∷ self.old.decisions else self.old.decisions); bad = None } }
+        ensures asks { ArePath self.new.orders self.new.slabs self.new.decisions }
     {
         self.bad = None;
         if self.trail.stands(ask) {
@@ -100,6 +100,7 @@ impl Path {
     pub fn next_branch(&mut self) -> bool
         ensures left { IsTrue result ↔ IsSome (branch_after self.old.decisions) }
         ensures path { self.new ≡ record self.old { decisions = unwrap_or (branch_after self.old.decisions) []; bad = None } }
+        ensures asks { ArePath self.new.orders self.new.slabs self.new.decisions }
     {
         self.bad = None;
         self.trail.next_branch()
@@ -107,8 +108,7 @@ impl Path {
 
     /// Whether a column agrees with each decision. It takes no memory.
     pub fn agrees(&self, kind: Kind, orders: &[u16]) -> bool
-        requires rises { Rises 0 self.now.orders orders.now }
-        requires kind { IsKindOf self.now.slabs kind }
+        requires { Rises 0 self.now.orders orders.now }
         ensures value { result ≡ column_agrees self.now.decisions (record { kind = kind; orders = orders.now }) }
         ensures path { ArePath self.now.orders self.now.slabs self.now.decisions }
     {

@@ -1,5 +1,6 @@
 //! The groups all of whose orders are of two colours.
 ghost use Rattle.std.specs.Prelude.{◌≡◌, ◌≤◌, ◌<◌, ◌↔◌, IsTrue, length, vec_capacity};
+ghost use Rattle.mill_model.specs.Groups.{head_of};
 ghost use Rattle.price_check.specs.Search.{IsOf, IsGroupOf, IsQueue};
 
 use mill_model::Mill;
@@ -13,11 +14,16 @@ fn is_of(mill: &Mill, first: u16, second: u16, order: usize) -> bool
     colour == first || colour == second
 }
 
-// Whether each order of a group is.
+// Whether each order of a group is: its head first, as most groups fail there.
 fn is_group_of(mill: &Mill, heads: &[u16], first: u16, second: u16, head: u16) -> bool
-    requires { length heads.now ≡ length mill.now.orders }
+    requires size { length heads.now ≡ length mill.now.orders }
+    requires head { head < length heads.now }
+    requires own { head_of heads.now head ≡ head }
     ensures { IsTrue result ↔ IsGroupOf mill.now heads.now first second head }
 {
+    if !is_of(mill, first, second, usize::from(head)) {
+        return false;
+    }
     for order in 0..heads.len() {
         if heads[order] == head && !is_of(mill, first, second, order) {
             return false;
@@ -27,13 +33,7 @@ fn is_group_of(mill: &Mill, heads: &[u16], first: u16, second: u16, head: u16) -
 }
 
 // Lists the heads of these groups.
-pub(crate) fn fill_queue(
-    mill: &Mill,
-    heads: &[u16],
-    first: u16,
-    second: u16,
-    queue: &mut Vec<u16>,
-)
+pub(crate) fn fill_queue(mill: &Mill, heads: &[u16], first: u16, second: u16, queue: &mut Vec<u16>)
     requires size { length heads.now ≡ length mill.now.orders }
     requires room { length mill.now.orders ≤ vec_capacity queue.old }
     ensures queue { IsQueue mill.now heads.now first second queue.new.items }

@@ -57,7 +57,8 @@ impl Trail {
     // Whether a question is answered.
     pub(crate) fn stands(&self, ask: Ask) -> bool
         requires { IsAskOf self.now.orders self.now.slabs ask }
-        ensures { IsTrue result ↔ Contains (asks_of self.now.decisions) ask }
+        ensures stands { IsTrue result ↔ Contains (asks_of self.now.decisions) ask }
+        ensures path { ArePath self.now.orders self.now.slabs self.now.decisions }
     {
         self.marks[place_of(self.orders, self.slabs, ask)]
     }
@@ -66,7 +67,8 @@ impl Trail {
     pub(crate) fn put(&mut self, ask: Ask, answer: bool)
         requires asked { IsAskOf self.old.orders self.old.slabs ask }
         requires fresh { IsFresh ask self.old.decisions }
-        ensures { self.new ≡ record self.old { decisions = (ask, answer) ∷ self.old.decisions } }
+        ensures put { self.new ≡ record self.old { decisions = (ask, answer) ∷ self.old.decisions } }
+        ensures path { ArePath self.new.orders self.new.slabs self.new.decisions }
     {
         let place = place_of(self.orders, self.slabs, ask);
         self.marks[place] = true;
@@ -94,7 +96,8 @@ impl Trail {
     // Takes off the latest decisions whose answer is no, and turns the one before them from yes to no, if there is one.
     pub(crate) fn next_branch(&mut self) -> bool
         ensures left { IsTrue result ↔ IsSome (branch_after self.old.decisions) }
-        ensures path { self.new ≡ record self.old { decisions = unwrap_or (branch_after self.old.decisions) [] } }
+        ensures branch { self.new ≡ record self.old { decisions = unwrap_or (branch_after self.old.decisions) [] } }
+        ensures path { ArePath self.new.orders self.new.slabs self.new.decisions }
     {
         while let Some((ask, answer)) = self.pop() {
             if answer {

@@ -1,6 +1,5 @@
-use Rattle.std.proofs.Common.{◌≡◌, ℕ, ◌+◌, ◌-◌, ◌*◌, ◌/◌, ◌^◌, ◌<◌, ◌≤◌, ℤ, drop, length, subst, sym, to_z, of_z, arith}
+use Rattle.std.proofs.Common.{◌+◌, ◌*◌, ◌/◌, ◌^◌, ◌<◌, ◌≤◌, drop, length, subst, sym, arith}
 use Rattle.std.specs.Prelude.{unsigned_abs}
-use Rattle.std.specs.Int.{w128}
 use Rattle.price_check.specs.Bounds.{cell_at, IsBound}
 use Rattle.price_check.proofs.Sums.{back_small}
 use Rattle.price_check.proofs.Rows.{bound_rounded, div_within}
