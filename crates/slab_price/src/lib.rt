@@ -9,6 +9,8 @@ mod pricing;
 mod question;
 mod scope;
 mod stock;
+#[cfg(test)]
+mod tests;
 mod walk;
 
 pub use found::Found;
