@@ -1,6 +1,0 @@
-pub mod Excesses
-pub mod Rests
-pub mod Colours
-pub mod Chosen
-pub mod Filling
-pub mod Columns
