@@ -1,5 +1,5 @@
 -- What groups can still gain, at most.
-use Rattle.std.specs.Prelude.{◌≡◌, ◌⊎◌, ℕ, ◌+◌, ◌*◌, ◌^◌, ◌<◌, ◌≤◌, ℤ, pos, ◌+ℤ◌, ◌-ℤ◌, ◌≤ℤ◌, unsigned_abs, Bool, true, false, cond, eqb, List, [], ◌∷◌, length, slice_index_or, All}
+use Rattle.std.specs.Prelude.{◌≡◌, ◌⊎◌, ℕ, ◌+◌, ◌-◌, ◌*◌, ◌^◌, ◌<◌, ◌≤◌, ℤ, pos, ◌+ℤ◌, ◌-ℤ◌, ◌≤ℤ◌, unsigned_abs, Bool, true, false, cond, eqb, List, [], ◌∷◌, length, slice_index_or, All}
 use Rattle.std.specs.List.{AllByRecursion, sum_by}
 use Rattle.mill_model.specs.declared.kind.Kind.{Kind}
 use Rattle.mill_model.specs.Mill.{Mill}
@@ -39,7 +39,7 @@ plus_of plus first second = cond (eqb first second) (slice_index_or plus first (
 pub record ArePlus (m : Mill) (g : Groups) (low : ℕ) (plus : List ℤ) : Type 0 where
   pub size : length plus ≡ m.colours + 1
   pub most : (first second : ℕ) (taken : List ℕ) → first ≤ m.colours → second ≤ m.colours → Rises low (length m.orders) taken → HaveColours m first second taken → total_by (gain_at g) taken ≤ℤ plus_of plus first second
-  pub small : (colour : ℕ) → colour ≤ m.colours → unsigned_abs (slice_index_or plus colour (pos 0)) ≤ 2 ^ 100
+  pub small : (colour : ℕ) → colour ≤ m.colours → unsigned_abs (slice_index_or plus colour (pos 0)) ≤ (length m.orders - low) * 2 ^ 84
 
 -- what stands through a call: the groups, and bounds on slabs and on colours
 pub record IsPlan (m : Mill) (decisions : List Decision) (p : Prices) (plan : Plan) : Type 0 where

@@ -44,9 +44,9 @@ pub record IsQueue (m : Mill) (plan : Plan) (queue : Queue) : Type 0 where
 
 -- what a walk goes by
 pub record IsHunt (m : Mill) (listed : List ℕ) (decisions : Decisions) (p : Prices) (plan : Plan) (queue : Queue) : Type 0 where
-  pub question : IsQuestion m listed decisions p
-  pub plan : IsPlan m decisions.list p plan
-  pub queue : IsQueue m plan queue
+  pub asked : IsQuestion m listed decisions p
+  pub planned : IsPlan m decisions.list p plan
+  pub queued : IsQueue m plan queue
 
 -- heads taken from the queue, where so many are left, with the weight and the gain of their groups
 pub record AreChosen (g : Groups) (queue : List ℕ) (left : ℕ) (chosen : List ℕ) (weight : ℕ) (gain : ℤ) : Type 0 where
@@ -85,5 +85,5 @@ pub record HasQueueRoom (orders : ℕ) (queue : Queue) : Type 0 where
 pub record HasPickRoom (orders : ℕ) (picks : Picks) : Type 0 where
   pub empty : picks.chosen.items ≡ []
   pub chosen : orders ≤ vec_capacity picks.chosen
-  pub orders : orders ≤ vec_capacity picks.orders
+  pub listed : orders ≤ vec_capacity picks.orders
   pub best : orders ≤ vec_capacity picks.best.orders

@@ -1,8 +1,8 @@
-ghost use Rattle.std.specs.Prelude.{◌≡◌, ◌≤◌, ℕ, pos, ◌≤ℤ◌, IfOk, length};
+ghost use Rattle.std.specs.Prelude.{◌≡◌, ◌≤◌, ℕ, pos, ◌≤ℤ◌, IfOk, length, []};
 ghost use Rattle.std.specs.Bool.{OnTrue};
 ghost use Rattle.slab_price.specs.Bounds.{IsPlan};
 ghost use Rattle.slab_price.specs.Excess.{IsGreatest};
-ghost use Rattle.slab_price.specs.Searches.{IsQuestion, IsBest, IsBestOfPair, HasQueueRoom, HasPickRoom};
+ghost use Rattle.slab_price.specs.Searches.{IsQuestion, IsHunt, IsBest, IsBestFrom, IsBestOfPair, HasQueueRoom, HasPickRoom};
 
 use crate::best::Best;
 use crate::plan::Plan;
@@ -56,6 +56,25 @@ impl Question<'_> {
         most + plan.ends[0] <= best.excess
     }
 
+    /// Improves the best by the columns of the groups in the queue.
+    fn walk_queue(&self, plan: &Plan, queue: &Queue, picks: &mut Picks)
+        requires hunt { IsHunt self.now.mill.now self.now.table.now self.now.decisions.now self.now.prices.now plan.now queue.now }
+        requires picks { HasPickRoom (length self.now.mill.now.orders) picks.old }
+        requires best { IsBest self.now.mill.now self.now.decisions.now.list self.now.prices.now picks.old.best }
+        ensures picks { HasPickRoom (length self.now.mill.now.orders) picks.new }
+        ensures grows { picks.old.best.excess ≤ℤ picks.new.best.excess }
+        ensures kept { IsBest self.now.mill.now self.now.decisions.now.list self.now.prices.now picks.new.best }
+        ensures greatest { IsBestFrom self.now.mill.now self.now.decisions.now.list self.now.prices.now plan.now.groups queue.now.heads.items (length queue.now.heads.items) [] picks.new.best.excess }
+    {
+        let hunt = Hunt {
+            question: self,
+            plan,
+            queue,
+        };
+        let left = queue.heads.len();
+        hunt.walk(left, 0, 0, &mut picks.chosen, &mut picks.orders, &mut picks.best);
+    }
+
     /// Improves the best by the columns of two colours.
     fn price_pair(&self, plan: &Plan, first: u16, second: u16, queue: &mut Queue, picks: &mut Picks)
         requires question { IsQuestion self.now.mill.now self.now.table.now self.now.decisions.now self.now.prices.now }
@@ -75,12 +94,7 @@ impl Question<'_> {
             return;
         }
         self.fill_queue(plan, first, second, queue);
-        let hunt = Hunt {
-            question: self,
-            plan,
-            queue,
-        };
-        hunt.walk(queue.heads.len(), 0, 0, &mut picks.chosen, &mut picks.orders, &mut picks.best);
+        self.walk_queue(plan, queue, picks);
     }
 
     /// Improves the best by the columns of one colour and another that isn't before it.

@@ -20,7 +20,8 @@ pub(crate) struct Question<'a> {
 impl Question<'_> {
     /// The size of a slab.
     pub(crate) fn size(&self, kind: Kind) -> u16
-        requires { IsInStock self.now.mill.now kind }
+        requires question { IsQuestion self.now.mill.now self.now.table.now self.now.decisions.now self.now.prices.now }
+        requires stock { IsInStock self.now.mill.now kind }
         ensures size { result ≡ size_of self.now.mill.now kind }
         ensures small { result ≤ 10000 }
     {
