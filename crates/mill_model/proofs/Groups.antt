@@ -1,8 +1,9 @@
 -- Members of groups, and sums over them.
-use Rattle.std.proofs.Common.{◌≡◌, ℕ, zero, suc, ◌+◌, ◌<◌, ◌≤◌, ℤ, pos, ◌+ℤ◌, Bool, true, false, cond, ◌&&◌, ◌||◌, eqb, List, [], ◌∷◌, ◌++◌, length, get_or, set, take, sum_by, refl, sym, ap, ◌∙◌, inl, inr, arith, get_or-set_same, get_or-set_other, length-set, length-take}
-use Rattle.std.proofs.lemmas.Bool.{eq-eqb, ne_eqb, cases_eq, cond-true, cond-false, cond_both, or_left}
+use Rattle.std.proofs.Common.{◌≡◌, ℕ, zero, suc, ◌+◌, ◌<◌, ◌≤◌, ℤ, pos, ◌+ℤ◌, Bool, true, false, cond, ◌&&◌, ◌||◌, eqb, List, [], ◌∷◌, ◌++◌, map, length, get_or, set, take, sum_by, refl, sym, ap, ◌∙◌, subst, inl, inr, arith, get_or-set_same, get_or-set_other, length-set, length-take}
+use Rattle.std.proofs.lemmas.Bool.{eqb-true, eq-eqb, ne_eqb, cases_eq, cond-true, cond-false, cond_both, or_left}
 use Rattle.std.proofs.lemmas.Int.{ints}
-use Rattle.std.proofs.lemmas.List.{take_more}
+use Rattle.std.proofs.lemmas.List.{take_more, get_or-map, length-map}
+use Rattle.std.proofs.lemmas.List.Sums.{sum_by-cons}
 use Rattle.std.proofs.Math.Seq.{take-length}
 use Rattle.mill_model.specs.SignedSums.{total_by}
 use Rattle.mill_model.specs.Columns.{Column, has, Rises}
@@ -186,3 +187,110 @@ totals_more f heads o totals l b are = record { size = omega (arith, are.size, l
 
 pub totals_all : (f : ℕ → ℤ) (heads : List ℕ) (totals : List ℤ) → AreTotals f heads (length heads) totals → (h : ℕ) → h < length heads → get_or totals h (pos 0) ≡ total_by f (members heads (h ∷ []))
 totals_all f heads totals are h l = are.total h l ∙ ap (λ hs. total_by f (members hs (h ∷ []))) (take-length heads)
+
+-- ---- the same with natural numbers
+
+pub sum-members_more : (f : ℕ → ℕ) (heads : List ℕ) (h o : ℕ) → o < length heads → sum_by f (members (take (o + 1) heads) (h ∷ [])) ≡ sum_by f (members (take o heads) (h ∷ [])) + cond (eqb h (head_of heads o)) (f o) 0
+sum-members_more f heads h o l = omega (
+  arith,
+  ints,
+  total-members_more (λ i. pos (f i)) heads h o l,
+  total_by-pos f (members (take (o + 1) heads) (h ∷ [])),
+  total_by-pos f (members (take o heads) (h ∷ [])),
+  by_test (eqb h (head_of heads o)),
+)
+  where
+    by_test : (b : Bool) → cond b (pos (f o)) (pos 0) ≡ pos (cond b (f o) 0)
+    by_test true = refl
+    by_test false = refl
+
+pub record AreSums (f : ℕ → ℕ) (heads : List ℕ) (o : ℕ) (sums : List ℕ) : Type 0 where
+  pub size : length sums ≡ length heads
+  pub sum : (h : ℕ) → h < length heads → get_or sums h 0 ≡ sum_by f (members (take o heads) (h ∷ []))
+
+pub sums_none : (f : ℕ → ℕ) (heads : List ℕ) (sums : List ℕ) → length sums ≡ length heads → ((h : ℕ) → h < length heads → get_or sums h 0 ≡ 0) → AreSums f heads 0 sums
+sums_none f heads sums size zeros = record { size = size; sum = zeros }
+
+-- one order more
+pub sums_more : (f : ℕ → ℕ) (heads : List ℕ) (o : ℕ) (sums : List ℕ) → o < length heads → head_of heads o < length heads → AreSums f heads o sums → AreSums f heads (o + 1) (set sums (head_of heads o) (get_or sums (head_of heads o) 0 + f o))
+sums_more f heads o sums l b are = record { size = omega (arith, are.size, length-set sums (head_of heads o) (get_or sums (head_of heads o) 0 + f o)); sum = sum }
+  where
+    sum : (h : ℕ) → h < length heads → get_or (set sums (head_of heads o) (get_or sums (head_of heads o) 0 + f o)) h 0 ≡ sum_by f (members (take (o + 1) heads) (h ∷ []))
+    sum h k = elim (cases_eq h (head_of heads o)) [
+      | inl e ↦
+          let inside : head_of heads o < length sums = omega (arith, b, are.size) in
+          ap (λ z. get_or (set sums (head_of heads o) (get_or sums (head_of heads o) 0 + f o)) z 0) e
+          ∙ get_or-set_same sums (head_of heads o) (get_or sums (head_of heads o) 0 + f o) 0 inside
+          ∙ ap (λ z. get_or sums z 0 + f o) (sym e)
+          ∙ ap (λ z. z + f o) (are.sum h k)
+          ∙ ap (λ z. sum_by f (members (take o heads) (h ∷ [])) + z) (sym (cond-true (eqb h (head_of heads o)) (f o) 0 (eq-eqb h (head_of heads o) e)))
+          ∙ sym (sum-members_more f heads h o l)
+      | inr ne ↦
+          get_or-set_other sums (head_of heads o) h (get_or sums (head_of heads o) 0 + f o) 0 ne
+          ∙ omega (arith, are.sum h k, sum-members_more f heads h o l, cond-false {A = ℕ} (eqb h (head_of heads o)) (f o) 0 (ne_eqb h (head_of heads o) ne))
+    ]
+
+pub sums_all : (f : ℕ → ℕ) (heads : List ℕ) (sums : List ℕ) → AreSums f heads (length heads) sums → (h : ℕ) → h < length heads → get_or sums h 0 ≡ sum_by f (members heads (h ∷ []))
+sums_all f heads sums are h l = are.sum h l ∙ ap (λ hs. sum_by f (members hs (h ∷ []))) (take-length heads)
+
+-- ---- sums over rising numbers
+
+pub total_rising : (f g : ℕ → ℤ) (low n : ℕ) (xs : List ℕ) → Rises low n xs → ((x : ℕ) → x < n → f x ≡ g x) → total_by f xs ≡ total_by g xs
+total_rising f g low n [] r e = refl
+total_rising f g low n (x ∷ xs) r e = omega (arith, ints, e x r.1, total_rising f g (x + 1) n xs r.2 e)
+
+pub sum_rising : (f g : ℕ → ℕ) (low n : ℕ) (xs : List ℕ) → Rises low n xs → ((x : ℕ) → x < n → f x ≡ g x) → sum_by f xs ≡ sum_by g xs
+sum_rising f g low n [] r e = refl
+sum_rising f g low n (x ∷ xs) r e = omega (arith, sum_by-cons f x xs, sum_by-cons g x xs, e x r.1, sum_rising f g (x + 1) n xs r.2 e)
+
+-- ---- heads
+
+-- each order alone
+pub heads_alone : (heads : List ℕ) → ((o : ℕ) → o < length heads → head_of heads o ≡ o) → AreHeads [] heads
+heads_alone heads alone = record {
+  before = λ o h. omega (arith, alone o h);
+  fixed = λ o h. ap (head_of heads) (alone o h);
+  joined = λ c agree o h. ap (has c.orders) (sym (alone o h));
+}
+
+-- more decisions leave the heads
+pub heads_stay : (decisions more : List Decision) (heads : List ℕ) → ((c : Column) → column_agrees more c ≡ true → column_agrees decisions c ≡ true) → AreHeads decisions heads → AreHeads more heads
+heads_stay decisions more heads weaker are = record { before = are.before; fixed = are.fixed; joined = λ c agree. are.joined c (weaker c agree) }
+
+-- one head in the place of another that goes with it
+pub heads_renamed : (decisions : List Decision) (heads : List ℕ) (gone kept : ℕ) → AreHeads decisions heads → kept ≤ gone → kept < length heads → head_of heads kept ≡ kept
+    → ((c : Column) → column_agrees decisions c ≡ true → has c.orders gone ≡ has c.orders kept) → AreHeads decisions (map (λ h. cond (eqb h gone) kept h) heads)
+heads_renamed decisions heads gone kept are le inside own alike = record { before = before; fixed = fixed; joined = joined }
+  where
+    size : length (map (λ h. cond (eqb h gone) kept h) heads) ≡ length heads
+    size = length-map heads (λ h. cond (eqb h gone) kept h)
+
+    at : (o : ℕ) → o < length heads → head_of (map (λ h. cond (eqb h gone) kept h) heads) o ≡ cond (eqb (head_of heads o) gone) kept (head_of heads o)
+    at o h = get_or-map (λ z. cond (eqb z gone) kept z) heads o 0 0 h
+
+    kept_stays : cond (eqb kept gone) kept kept ≡ kept
+    kept_stays = cond_both (eqb kept gone) kept kept (λ z. z ≡ kept) (λ _. refl) (λ _. refl)
+
+    before : (o : ℕ) → o < length (map (λ h. cond (eqb h gone) kept h) heads) → head_of (map (λ h. cond (eqb h gone) kept h) heads) o ≤ o
+    before o h =
+        let l : o < length heads = omega (arith, h, size) in
+        let lower : cond (eqb (head_of heads o) gone) kept (head_of heads o) ≤ head_of heads o = cond_both (eqb (head_of heads o) gone) kept (head_of heads o) (λ z. z ≤ head_of heads o) (λ e. omega (arith, eqb-true (head_of heads o) gone e)) (λ _. omega arith) in
+        omega (arith, at o l, are.before o l, lower)
+
+    fixed : (o : ℕ) → o < length (map (λ h. cond (eqb h gone) kept h) heads) → head_of (map (λ h. cond (eqb h gone) kept h) heads) (head_of (map (λ h. cond (eqb h gone) kept h) heads) o) ≡ head_of (map (λ h. cond (eqb h gone) kept h) heads) o
+    fixed o h =
+        let l : o < length heads = omega (arith, h, size) in
+        let lower : head_of heads o < length heads = omega (arith, are.before o l) in
+        subst (λ z. head_of (map (λ h. cond (eqb h gone) kept h) heads) z ≡ z) (sym (at o l))
+        (
+          cond_both (eqb (head_of heads o) gone) kept (head_of heads o) (λ z. head_of (map (λ h. cond (eqb h gone) kept h) heads) z ≡ z)
+            (λ _. at kept inside ∙ ap (λ z. cond (eqb z gone) kept z) own ∙ kept_stays)
+            (λ e. at (head_of heads o) lower ∙ ap (λ z. cond (eqb z gone) kept z) (are.fixed o l) ∙ cond-false (eqb (head_of heads o) gone) kept (head_of heads o) e)
+        )
+
+    joined : (c : Column) → column_agrees decisions c ≡ true → (o : ℕ) → o < length (map (λ h. cond (eqb h gone) kept h) heads) → has c.orders o ≡ has c.orders (head_of (map (λ h. cond (eqb h gone) kept h) heads) o)
+    joined c agree o h =
+        let l : o < length heads = omega (arith, h, size) in
+        are.joined c agree o l
+        ∙ cond_both (eqb (head_of heads o) gone) kept (head_of heads o) (λ z. has c.orders (head_of heads o) ≡ has c.orders z) (λ e. ap (has c.orders) (eqb-true (head_of heads o) gone e) ∙ alike c agree) (λ _. refl)
+        ∙ ap (has c.orders) (sym (at o l))

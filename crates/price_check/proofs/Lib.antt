@@ -6,6 +6,7 @@ pub mod Quotes
 pub mod Sums
 pub mod Pricing
 pub mod Walks
+pub mod Groupings
 pub mod Offers
 pub mod ColourPairs
 pub mod Suffixes

@@ -1,5 +1,5 @@
 -- The orders of a mill in groups that move as one, with what each group weighs and gains.
-use Rattle.std.specs.Prelude.{◌≡◌, ℕ, ◌*◌, ◌^◌, ◌<◌, ◌≤◌, ℤ, pos, unsigned_abs, List, length, slice_index_or}
+use Rattle.std.specs.Prelude.{◌≡◌, ℕ, ◌*◌, ◌^◌, ◌<◌, ◌≤◌, ℤ, pos, unsigned_abs, cond, eqb, List, [], ◌∷◌, map, length, slice_index_or}
 use Rattle.std.specs.List.{sum_by}
 use Rattle.mill_model.specs.Mill.{Mill}
 use Rattle.mill_model.specs.SignedSums.{total_by}
@@ -35,3 +35,23 @@ pub record AreGroups (m : Mill) (decisions : List Decision) (p : Prices) (g : Gr
   pub gains : (taken : List ℕ) → Rises 0 (length m.orders) taken → gains_of m p (members g.heads taken) ≡ total_by (gain_at g) taken
   pub light : (head : ℕ) → head < length m.orders → weight_at g head ≤ 250 * 10000
   pub small : (head : ℕ) → head < length m.orders → unsigned_abs (gain_at g head) ≤ 250 * 2 ^ 76
+
+-- an order's head is no later one
+abbrev pub AreBefore : List ℕ → Type 0
+AreBefore heads = (o : ℕ) → o < length heads → slice_index_or heads o 0 ≤ o
+
+-- what each group weighs alone
+pub record AreWeights (m : Mill) (heads : List ℕ) (weights : List ℕ) : Type 0 where
+  pub size : length weights ≡ length heads
+  pub weight : (head : ℕ) → head < length heads → slice_index_or weights head 0 ≡ load m (members heads (head ∷ []))
+  pub light : (head : ℕ) → head < length heads → slice_index_or weights head 0 ≤ 250 * 10000
+
+-- what each group gains alone
+pub record AreGains (m : Mill) (p : Prices) (heads : List ℕ) (gains : List ℤ) : Type 0 where
+  pub size : length gains ≡ length heads
+  pub gain : (head : ℕ) → head < length heads → slice_index_or gains head (pos 0) ≡ gains_of m p (members heads (head ∷ []))
+  pub small : (head : ℕ) → head < length heads → unsigned_abs (slice_index_or gains head (pos 0)) ≤ 250 * 2 ^ 76
+
+-- one head in the place of another
+abbrev pub renamed : ℕ → ℕ → List ℕ → List ℕ
+renamed gone kept heads = map (λ h. cond (eqb h gone) kept h) heads

@@ -5,6 +5,7 @@ mod bad;
 mod bounds;
 mod ends;
 mod gains;
+mod groups;
 mod path;
 mod questions;
 mod quote;

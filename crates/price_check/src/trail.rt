@@ -105,6 +105,14 @@ impl Trail {
         false
     }
 
+    // The decisions, the earliest first.
+    pub(crate) fn decisions(&self) -> &[(Ask, bool)]
+        ensures value { reverse result.now ≡ self.now.decisions }
+        ensures path { ArePath self.now.orders self.now.slabs self.now.decisions }
+    {
+        &self.decisions
+    }
+
     // Whether a column agrees with each decision.
     pub(crate) fn agrees(&self, kind: Kind, orders: &[u16]) -> bool
         ensures value { result ≡ column_agrees self.now.decisions (record { kind = kind; orders = orders.now }) }
