@@ -5,3 +5,8 @@ pub mod Parts
 pub mod Gathering
 pub mod Sums
 pub mod Tables
+pub mod Colours
+pub mod Packs
+pub mod Walks
+pub mod Queues
+pub mod ColourPairs

@@ -3,8 +3,8 @@ use Rattle.std.proofs.Math.ListN.{get_or-append}
 use Rattle.std.proofs.Common.{◌≡◌, inl, inr, ℕ, ◌+◌, ◌^◌, ◌<◌, ◌≤◌, pos, ◌+ℤ◌, ◌≤ℤ◌, ℤ, List, [], ◌∷◌, ◌++◌, length, get_or, sym, subst, ap, ◌∙◌, arith, to_z, of_z}
 use Rattle.std.specs.Prelude.{unsigned_abs}
 use Rattle.std.specs.Int.{w128, int_max}
-use Rattle.std.proofs.lemmas.Int.{ints}
-use Rattle.std.proofs.lemmas.Bool.{cases_eq, cond_both}
+use Rattle.std.proofs.lemmas.Int.{ints, int_max_is}
+use Rattle.std.proofs.lemmas.Bool.{cases_eq}
 use Rattle.std.proofs.Math.Seq.{get_or-append_seam}
 
 pub back : (x : ℤ) → unsigned_abs x ≤ 2 ^ 120 → to_z w128 (of_z w128 x) ≡ x
@@ -15,7 +15,7 @@ sum_back x y a b e f g h = rw (e, f) (omega (arith, ints))
 
 -- the greater of two small numbers
 pub max_small : (n : ℕ) (x y z : ℤ) → z ≡ int_max x y → unsigned_abs x ≤ n → unsigned_abs y ≤ n → unsigned_abs z ≤ n
-max_small n x y z e h k = subst (λ (w : ℤ). unsigned_abs w ≤ n) (sym e) (cond_both _ x y (λ (w : ℤ). unsigned_abs w ≤ n) (λ _. h) (λ _. k))
+max_small n x y z e h k = omega (arith, ints, e, int_max_is x y)
 
 -- what holds of each number so far, and of one more
 pub each_push : (P : ℕ → ℤ → Type 0) (xs ys : List ℤ) (x : ℤ) (n : ℕ) → ys ≡ xs ++ x ∷ [] → length xs ≡ n → ((k : ℕ) → k < n → P k (get_or xs k (pos 0))) → P n x → (k : ℕ) → k < n + 1 → P k (get_or ys k (pos 0))

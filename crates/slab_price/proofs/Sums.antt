@@ -3,8 +3,9 @@ use Rattle.std.proofs.Math.ListN.{get_or-append}
 use Rattle.std.proofs.Common.{◌≡◌, inl, inr, ◌⊎◌, ℕ, ◌+◌, ◌-◌, ◌*◌, ◌^◌, ◌<◌, ◌≤◌, pos, ◌+ℤ◌, ◌≤ℤ◌, ℤ, true, false, cond, eqb, List, [], ◌∷◌, ◌++◌, length, get_or, set, refl, sym, subst, ap, ◌∙◌, arith, get_or-set_same, get_or-set_other, length-set}
 use Rattle.std.specs.Prelude.{unsigned_abs}
 use Rattle.std.proofs.lemmas.Int.{ints}
-use Rattle.std.proofs.lemmas.Bool.{cases_eq, cond_both, cond-true, cond-false, eqb-true, eq-eqb, ne_eqb}
-use Rattle.std.proofs.lemmas.List.{length_push}
+use Rattle.std.proofs.lemmas.Bool.{cases_eq, cases_lt, cond_both, cond-true, cond-false, eqb-true, eq-eqb, ne_eqb}
+use Rattle.std.proofs.lemmas.List.{length_push, get_or_past, get_or-replicate, length-replicate}
+use Rattle.std.proofs.Math.ListN.{replicate}
 use Rattle.std.proofs.Math.Seq.{get_or-append_seam}
 use Rattle.mill_model.specs.Mill.{Mill}
 use Rattle.mill_model.specs.SignedSums.{total_by}
@@ -25,6 +26,12 @@ plus_none m g plus size zeros = record { size = size; most = most; small = λ c 
     most : (c d : ℕ) (taken : List ℕ) → c ≤ m.colours → d ≤ m.colours → Rises (length m.orders) (length m.orders) taken → HaveColours m c d taken → total_by (gain_at g) taken ≤ℤ plus_of plus c d
     most c d [] i j r h = omega (arith, ints, plus_zero plus c d zeros)
     most c d (x ∷ xs) i j r h = absurd (omega (arith, r.0, r.1))
+
+pub zeros : (n k : ℕ) → get_or (replicate n (pos 0)) k (pos 0) ≡ pos 0
+zeros n k = elim (cases_lt k n) [
+  | inl below ↦ get_or-replicate n k (pos 0) (pos 0) below
+  | inr past ↦ get_or_past (replicate n (pos 0)) k (pos 0) (omega (arith, past, length-replicate n (pos 0)))
+]
 
 -- more for a colour is more for a pair with it
 module _ (plus : List ℤ) (k : ℕ) (more : ℤ) (inside : k < length plus) (sign : pos 0 ≤ℤ more) where
