@@ -1,8 +1,9 @@
 -- Numbers as they were computed, and lists one number longer.
 use Rattle.std.proofs.Math.ListN.{get_or-append}
-use Rattle.std.proofs.Common.{◌≡◌, inl, inr, ℕ, ◌+◌, ◌^◌, ◌<◌, ◌≤◌, pos, ◌+ℤ◌, ◌≤ℤ◌, ℤ, List, [], ◌∷◌, ◌++◌, length, get_or, sym, subst, ap, ◌∙◌, arith, to_z, of_z}
+use Rattle.std.proofs.Common.{◌≡◌, true, inl, inr, ℕ, ◌+◌, ◌^◌, ◌<◌, ◌≤◌, pos, ◌+ℤ◌, ◌≤ℤ◌, ℤ, List, [], ◌∷◌, ◌++◌, length, get_or, sym, subst, ap, ◌∙◌, arith, to_z, of_z}
 use Rattle.std.specs.Prelude.{unsigned_abs}
 use Rattle.std.specs.Int.{w128, int_max}
+use lib.Signed.{le_z}
 use Rattle.std.proofs.lemmas.Int.{ints, int_max_is}
 use Rattle.std.proofs.lemmas.Bool.{cases_eq}
 use Rattle.std.proofs.Math.Seq.{get_or-append_seam}
@@ -23,3 +24,7 @@ each_push P xs ys x n pushed size before here k h = elim (cases_eq k n) [
   | inl e ↦ subst (λ (i : ℕ). P i (get_or ys i (pos 0))) (sym e) (subst (P n) (sym (ap (λ (us : List ℤ). get_or us n (pos 0)) pushed ∙ ap (λ i. get_or (xs ++ x ∷ []) i (pos 0)) (sym size) ∙ get_or-append_seam xs x [] (pos 0))) here)
   | inr n ↦ subst (P k) (sym (ap (λ (us : List ℤ). get_or us k (pos 0)) pushed ∙ get_or-append xs (x ∷ []) (pos 0) k (omega (arith, size)))) (before k (omega arith))
 ]
+
+-- a comparison that held
+pub le_true : (a b : ℤ) → le_z a b ≡ true → a ≤ℤ b
+le_true a b e = grind (arith, ints)

@@ -1,5 +1,5 @@
 -- The queue of two colours.
-use Rattle.std.proofs.Common.{◌≡◌, inl, inr, ℕ, ◌+◌, ◌*◌, ◌^◌, ◌<◌, ◌≤◌, ℤ, Bool, true, false, cond, eqb, List, [], ◌∷◌, length, get_or, refl, sym, subst, ap, ◌∙◌, arith}
+use Rattle.std.proofs.Common.{◌≡◌, inl, inr, ℕ, zero, suc, ◌+◌, ◌*◌, ◌^◌, ◌<◌, ◌≤◌, ℤ, Bool, true, false, cond, eqb, List, [], ◌∷◌, length, get_or, refl, sym, subst, ap, ◌∙◌, arith}
 use Rattle.std.specs.List.{All, AllByRecursion}
 use Rattle.std.proofs.lemmas.Bool.{cond_both, eqb-true, or_cases, or_left, or_right, eq-eqb}
 use Rattle.std.proofs.lemmas.List.{get_or_default}
@@ -68,6 +68,22 @@ weighed m decisions p g queue groups r = record {
   where
     inside : (k : ℕ) → k < length queue → get_or queue k 0 < length g.heads
     inside k h = left_each (λ x. x < length g.heads) queue (length queue) (rises_below 0 (length g.heads) (left_of queue (length queue)) r) k h
+
+pub head_inside : (m : Mill) (heads queue : List ℕ) → AreQueued m heads (left_of queue (length queue)) → (k d : ℕ) → k < length queue → get_or queue k d < length m.orders
+head_inside m heads queue q k d h =
+    subst (λ (x : ℕ). x < length m.orders) (get_or_default queue k 0 d h) (left_each (λ x. x < length m.orders) queue (length queue) (rises_below 0 (length m.orders) (left_of queue (length queue)) q.rises) k h)
+
+-- rising numbers are no more than there is room for
+pub rises_length : (low high : ℕ) (xs : List ℕ) → low ≤ high → Rises low high xs → low + length xs ≤ high
+rises_length low high [] le r = omega arith
+rises_length low high (x ∷ xs) le r = omega (arith, r.0, rises_length (x + 1) high xs (omega (arith, r.1)) r.2)
+
+length-left_of : (queue : List ℕ) (k : ℕ) → length (left_of queue k) ≡ k
+length-left_of queue zero = refl
+length-left_of queue (suc k) = omega (arith, length-left_of queue k)
+
+pub queue_few : (m : Mill) (heads queue : List ℕ) → length m.orders ≤ 250 → AreQueued m heads (left_of queue (length queue)) → length queue ≤ 250
+queue_few m heads queue few q = omega (arith, few, rises_length 0 (length m.orders) (left_of queue (length queue)) (omega arith) q.rises, length-left_of queue (length queue))
 
 -- ---- a column's heads
 

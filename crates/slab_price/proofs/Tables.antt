@@ -10,7 +10,9 @@ use Rattle.std.proofs.lemmas.List.{length_push}
 use Rattle.std.proofs.lemmas.List.Sums.{sum_by-cons}
 use Rattle.std.proofs.Math.Seq.{get_or-append_seam}
 use Rattle.mill_model.specs.SignedSums.{total_by}
-use Rattle.slab_price.specs.Bounds.{IsTable}
+use Rattle.mill_model.specs.Mill.{Mill}
+use Rattle.mill_model.specs.Prices.{Prices}
+use Rattle.slab_price.specs.Bounds.{AreEnds, AreRests, IsMost, IsTable}
 use Rattle.slab_price.specs.Groupings.{Groups, weight_at, gain_at}
 use Rattle.slab_price.specs.Parts.{IsPart, left_of}
 use Rattle.slab_price.proofs.Parts.{left_more}
@@ -83,3 +85,17 @@ table_more g queue ends table at load next inside size without with little t = r
       | inl e ↦ rw (last k e) (omega (arith, little, size, e))
       | inr n ↦ let lt : k < length table = omega (arith, h, n, length_push table next) in rw (before k lt) (t.small k lt)
     ]
+
+-- ---- what the bounds say of slabs
+
+pub most_from_table : (m : Mill) (p : Prices) (g : Groups) (queue : List ℕ) (ends table : List ℤ) (left load : ℕ) → AreEnds m p ends → IsTable g queue ends table → left * length ends + load < length table
+    → IsMost m p g (left_of queue left) load (get_or table (left * length ends + load) (pos 0))
+most_from_table m p g queue ends table left load are t inside more kind part stock holds =
+    omega (arith, ints, t.most left load more inside part (omega (arith, holds, are.room kind stock)), are.least (load + sum_by (weight_at g) more) kind stock holds)
+
+pub most_from_rests : (m : Mill) (p : Prices) (g : Groups) (queue : List ℕ) (ends rest : List ℤ) (left load : ℕ) → AreEnds m p ends → AreRests g queue (length queue) rest → left ≤ length queue
+    → IsMost m p g (left_of queue left) load (get_or rest left (pos 0) +ℤ get_or ends load (pos 0))
+most_from_rests m p g queue ends rest left load are r inside more kind part stock holds = omega (arith, ints, r.most left more inside part, are.least load kind stock (omega (arith, holds)))
+
+pub most_weaker : (m : Mill) (p : Prices) (g : Groups) (left : List ℕ) (load : ℕ) (a b : ℤ) → a ≤ℤ b → IsMost m p g left load a → IsMost m p g left load b
+most_weaker m p g left load a b le h more kind part stock holds = omega (arith, ints, h more kind part stock holds)

@@ -23,11 +23,7 @@ use Rattle.slab_price.specs.Parts.{IsPart, left_of}
 use Rattle.slab_price.specs.Searches.{AreChosen, IsBestFrom, IsBestOn, IsPack}
 use Rattle.slab_price.proofs.Excesses.{excess_split}
 use Rattle.slab_price.proofs.Parts.{left_more, part_nil, part_rises}
-
--- rising numbers are no more than there is room for
-pub rises_length : (low high : ℕ) (xs : List ℕ) → low ≤ high → Rises low high xs → low + length xs ≤ high
-rises_length low high [] le r = omega arith
-rises_length low high (x ∷ xs) le r = omega (arith, r.0, rises_length (x + 1) high xs (omega (arith, r.1)) r.2)
+use Rattle.slab_price.proofs.Queues.{rises_length}
 
 pub total_small : (f : ℕ → ℤ) (low high : ℕ) (xs : List ℕ) → Rises low high xs → ((x : ℕ) → x < high → unsigned_abs (f x) ≤ 2 ^ 84) → unsigned_abs (total_by f xs) ≤ length xs * 2 ^ 84
 total_small f low high [] r h = omega arith

@@ -25,6 +25,7 @@ HaveColours m first second orders = AllByRecursion (HasColour m first second) or
 -- no slab that holds a load earns more than the entry at the load, as all slabs cost something or nothing
 pub record AreEnds (m : Mill) (p : Prices) (ends : List ℤ) : Type 0 where
   pub room : (kind : Kind) → IsInStock m kind → size_of m kind < length ends
+  pub some : 0 < length ends
   pub narrow : length ends ≤ 10001
   pub least : (load : ℕ) (kind : Kind) → IsInStock m kind → load ≤ size_of m kind → (pos 0 -ℤ cost_of m p kind) ≤ℤ slice_index_or ends load (pos 0)
   pub small : (load : ℕ) → load < length ends → unsigned_abs (slice_index_or ends load (pos 0)) ≤ 2 ^ 100

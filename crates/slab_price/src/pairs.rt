@@ -49,11 +49,7 @@ impl Question<'_> {
         requires second { second ≤ self.now.mill.now.colours }
         ensures { OnTrue result (IsBestOfPair self.now.mill.now self.now.decisions.now.list self.now.prices.now first second best.now.excess) }
     {
-        let mut most = plan.plus[first as usize];
-        if first != second {
-            most += plan.plus[second as usize];
-        }
-        most + plan.ends[0] <= best.excess
+        plan.most(first, second) + plan.ends[0] <= best.excess
     }
 
     /// Improves the best by the columns of the groups in the queue.

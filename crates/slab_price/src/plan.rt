@@ -1,4 +1,4 @@
-ghost use Rattle.std.specs.Prelude.{◌≡◌, ◌<◌, ◌≤◌, ◌^◌, pos, IfOk, length, unsigned_abs};
+ghost use Rattle.std.specs.Prelude.{◌≡◌, ◌<◌, ◌≤◌, ◌^◌, ℕ, pos, IfOk, length, slice_index_or, unsigned_abs};
 ghost use Rattle.slab_price.specs.Bounds.{IsPlan, plus_of};
 ghost use Rattle.slab_price.specs.Searches.{IsQuestion};
 
@@ -13,6 +13,23 @@ pub(crate) struct Plan {
     pub groups: Groups,
     pub ends: Vec<i128>,
     pub plus: Vec<i128>,
+}
+
+impl Plan {
+    /// What groups of two colours gain at most.
+    pub(crate) fn most(&self, first: u16, second: u16) -> i128
+        requires first { first < length self.now.plus.items }
+        requires second { second < length self.now.plus.items }
+        requires small { (colour : ℕ) → colour < length self.now.plus.items → unsigned_abs (slice_index_or self.now.plus.items colour (pos 0)) ≤ 2 ^ 100 }
+        ensures most { result ≡ plus_of self.now.plus.items first second }
+        ensures small { unsigned_abs result ≤ 2 ^ 101 }
+    {
+        let most = self.plus[first as usize];
+        if first == second {
+            return most;
+        }
+        most + self.plus[second as usize]
+    }
 }
 
 impl Question<'_> {

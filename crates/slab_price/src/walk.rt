@@ -129,12 +129,14 @@ impl Hunt<'_> {
         }
         let head = self.queue.heads[left - 1];
         let heavier = weight + self.plan.groups.weight(head as usize);
-        if (heavier as usize) < self.plan.ends.len() {
-            let richer = gain + self.plan.groups.gain(head as usize);
-            chosen.push_reserved(head);
-            self.walk(left - 1, heavier, richer, chosen, orders, best);
-            chosen.pop();
+        if heavier as usize >= self.plan.ends.len() {
+            self.walk(left - 1, weight, gain, chosen, orders, best);
+            return;
         }
+        let richer = gain + self.plan.groups.gain(head as usize);
+        chosen.push_reserved(head);
+        self.walk(left - 1, heavier, richer, chosen, orders, best);
+        chosen.pop();
         self.walk(left - 1, weight, gain, chosen, orders, best);
     }
 }
