@@ -78,7 +78,7 @@ pub rises_length : (low high : ℕ) (xs : List ℕ) → low ≤ high → Rises l
 rises_length low high [] le r = omega arith
 rises_length low high (x ∷ xs) le r = omega (arith, r.0, rises_length (x + 1) high xs (omega (arith, r.1)) r.2)
 
-length-left_of : (queue : List ℕ) (k : ℕ) → length (left_of queue k) ≡ k
+pub length-left_of : (queue : List ℕ) (k : ℕ) → length (left_of queue k) ≡ k
 length-left_of queue zero = refl
 length-left_of queue (suc k) = omega (arith, length-left_of queue k)
 

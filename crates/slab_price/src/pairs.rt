@@ -41,15 +41,15 @@ impl Picks {
 }
 
 impl Question<'_> {
-    /// Whether no column of the two colours can be better than the best.
-    fn is_hopeless(&self, plan: &Plan, first: u16, second: u16, best: &Best) -> bool
+    /// Whether no column of the two colours exceeds more than the best.
+    fn is_hopeless(&self, plan: &Plan, first: u16, second: u16, best: i128) -> bool
         requires question { IsQuestion self.now.mill.now self.now.table.now self.now.decisions.now self.now.prices.now }
         requires plan { IsPlan self.now.mill.now self.now.decisions.now.list self.now.prices.now plan.now }
         requires first { first ≤ self.now.mill.now.colours }
         requires second { second ≤ self.now.mill.now.colours }
-        ensures { OnTrue result (IsBestOfPair self.now.mill.now self.now.decisions.now.list self.now.prices.now first second best.now.excess) }
+        ensures { OnTrue result (IsBestOfPair self.now.mill.now self.now.decisions.now.list self.now.prices.now first second best) }
     {
-        plan.most(first, second) + plan.ends[0] <= best.excess
+        plan.most(first, second) + plan.ends[0] <= best
     }
 
     /// Improves the best by the columns of the groups in the queue.
@@ -68,7 +68,14 @@ impl Question<'_> {
             queue,
         };
         let left = queue.heads.len();
-        hunt.walk(left, 0, 0, &mut picks.chosen, &mut picks.orders, &mut picks.best);
+        hunt.walk(
+            left,
+            0,
+            0,
+            &mut picks.chosen,
+            &mut picks.orders,
+            &mut picks.best,
+        );
     }
 
     /// Improves the best by the columns of two colours.
@@ -86,7 +93,7 @@ impl Question<'_> {
         ensures kept { IsBest self.now.mill.now self.now.decisions.now.list self.now.prices.now picks.new.best }
         ensures greatest { IsBestOfPair self.now.mill.now self.now.decisions.now.list self.now.prices.now first second picks.new.best.excess }
     {
-        if self.is_hopeless(plan, first, second, &picks.best) {
+        if self.is_hopeless(plan, first, second, picks.best.excess) {
             return;
         }
         self.fill_queue(plan, first, second, queue);

@@ -63,15 +63,15 @@ impl Hunt<'_> {
         }
     }
 
-    /// Whether the groups chosen and some of the first ones can't be better than the best.
-    fn is_hopeless(&self, left: usize, load: u32, gain: i128, best: &Best) -> bool
+    /// Whether the groups chosen and some of the first ones can't exceed more than the best.
+    fn is_hopeless(&self, left: usize, load: u32, gain: i128, best: i128) -> bool
         requires hunt { IsHunt self.now.question.now.mill.now self.now.question.now.table.now self.now.question.now.decisions.now self.now.question.now.prices.now self.now.plan.now self.now.queue.now }
         requires left { left ≤ length self.now.queue.now.heads.items }
         requires load { load < length self.now.plan.now.ends.items }
         requires small { unsigned_abs gain ≤ 2 ^ 92 }
-        ensures { OnTrue result (IsMost self.now.question.now.mill.now self.now.question.now.prices.now self.now.plan.now.groups (left_of self.now.queue.now.heads.items left) load (best.now.excess -ℤ gain)) }
+        ensures { OnTrue result (IsMost self.now.question.now.mill.now self.now.question.now.prices.now self.now.plan.now.groups (left_of self.now.queue.now.heads.items left) load (best -ℤ gain)) }
     {
-        gain + self.most(left, load) <= best.excess
+        gain + self.most(left, load) <= best
     }
 
     /// Offers the orders of the groups chosen.
@@ -120,7 +120,7 @@ impl Hunt<'_> {
         ensures kept { IsBest self.now.question.now.mill.now self.now.question.now.decisions.now.list self.now.question.now.prices.now best.new }
         ensures greatest { IsBestFrom self.now.question.now.mill.now self.now.question.now.decisions.now.list self.now.question.now.prices.now self.now.plan.now.groups self.now.queue.now.heads.items left chosen.old.items best.new.excess }
     {
-        if self.is_hopeless(left, weight, gain, best) {
+        if self.is_hopeless(left, weight, gain, best.excess) {
             return;
         }
         if left == 0 {
