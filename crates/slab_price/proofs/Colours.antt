@@ -5,7 +5,7 @@ use Rattle.std.proofs.lemmas.Bool.{eqb-true, eq-eqb, cases_Bool, cases_lt, cond-
 use Rattle.mill_model.specs.Mill.{Mill, IsInLimits}
 use Rattle.mill_model.specs.Columns.{Column, IsLegalColumn, Rises, has, different, colours_of, order_at}
 use Rattle.mill_model.proofs.Judging.{different_within}
-use Rattle.slab_price.specs.Searches.{HaveColours, IsRest}
+use Rattle.slab_price.specs.Bounds.{HaveColours}
 
 -- two colours are at most two
 pub two_colours_at_most : (m : Mill) (c d : ℕ) (orders : List ℕ) → HaveColours m c d orders → colours_of m orders ≤ 2
@@ -33,7 +33,7 @@ different_some x (y ∷ ys) = elim (cases_Bool (has (y ∷ ys) x)) [
 ]
 
 -- a number of a list is what each is
-has_all : (P : ℕ → Type 0) (x : ℕ) (xs : List ℕ) → AllByRecursion P xs → has xs x ≡ true → P x
+pub has_all : (P : ℕ → Type 0) (x : ℕ) (xs : List ℕ) → AllByRecursion P xs → has xs x ≡ true → P x
 has_all P x [] h e = absurd (empty e)
   where
     empty : false ≡ true → ⊥
@@ -101,8 +101,3 @@ pair_of m column limits legal = ordered (two_numbers (λ x. (1 ≤ x) × (x ≤ 
       | inl l ↦ (d, c, g.0, omega arith, f.1, turned c d column.orders all)
       | inr l ↦ (c, d, f.0, l, g.1, straight c d column.orders all)
     ]
-
--- rising orders of two colours
-pub rest_from_rises : (m : Mill) (c d low : ℕ) (os : List ℕ) → Rises low (length m.orders) os → HaveColours m c d os → IsRest m c d low os
-rest_from_rises m c d low [] r h = tt
-rest_from_rises m c d low (o ∷ os) r h = (r.0, r.1, h.0, rest_from_rises m c d (o + 1) os r.2 h.1)

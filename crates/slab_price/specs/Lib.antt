@@ -1,5 +1,7 @@
 pub mod Excess
 pub mod Found
-pub mod Searches
 pub mod Gains
 pub mod Groupings
+pub mod Parts
+pub mod Bounds
+pub mod Searches

@@ -1,9 +1,7 @@
-ghost use Rattle.std.specs.Prelude.{◌≡◌, ◌≤◌, ◌<ℤ◌, pos, OnOk, IfSome, IfNone, vec_len};
-ghost use Rattle.slab_price.specs.declared.best.Best.{Best};
+ghost use Rattle.std.specs.Prelude.{◌≡◌, ◌≤◌, ◌<ℤ◌, pos, IfSome, IfNone, length, vec_capacity};
 
 use crate::Found;
 use mill_model::Kind;
-use std::alloc::AllocError;
 
 /// The best column so far; an excess of 0 says that there is none.
 #[derive(Drop)]
@@ -15,20 +13,19 @@ pub(crate) struct Best {
 
 impl Best {
     /// Takes a column in place of the one before.
-    pub(crate) fn replace(
-        &mut self,
-        kind: Kind,
-        orders: &[u16],
-        excess: i128,
-    ) -> Result<(), AllocError>
-        ensures kind { OnOk result (self.new.kind ≡ kind) }
-        ensures orders { OnOk result (self.new.orders.items ≡ orders.now) }
-        ensures excess { OnOk result (self.new.excess ≡ excess) }
+    pub(crate) fn replace(&mut self, kind: Kind, orders: &[u16], excess: i128)
+        requires room { length orders.now ≤ vec_capacity self.old.orders }
+        ensures kind { self.new.kind ≡ kind }
+        ensures orders { self.new.orders.items ≡ orders.now }
+        ensures excess { self.new.excess ≡ excess }
+        ensures room { vec_capacity self.old.orders ≤ vec_capacity self.new.orders }
     {
         self.kind = kind;
         self.excess = excess;
         self.orders.clear();
-        self.orders.extend_from_slice(orders)
+        if self.orders.extend_from_slice(orders).is_err() {
+            unreachable!();
+        }
     }
 
     /// The column, where there is one.

@@ -2,14 +2,21 @@
 #![tactic(auto)]
 
 mod best;
-mod bounds;
+mod ends;
 mod found;
 mod groups;
+mod marks;
+mod offer;
 mod pairs;
+mod plan;
+mod plus;
 mod pricing;
 mod question;
-mod scope;
-mod stock;
+mod queue;
+mod rests;
+mod table;
+#[cfg(test)]
+mod tests;
 mod walk;
 
 pub use found::Found;

@@ -1,157 +1,138 @@
-ghost use Rattle.std.specs.Prelude.{◌≡◌, ◌+◌, ◌<◌, ◌≤◌, ℕ, ◌≤ℤ◌, length, [], OnOk, All};
-ghost use Rattle.slab_price.specs.declared.stock.Stock.TheVariants.{Surplus};
+ghost use Rattle.std.specs.Prelude.{◌≡◌, ◌≤◌, ℕ, pos, ◌≤ℤ◌, IfOk, length, []};
+ghost use Rattle.std.specs.Bool.{OnTrue};
+ghost use Rattle.slab_price.specs.Bounds.{IsPlan};
 ghost use Rattle.slab_price.specs.Excess.{IsGreatest};
-ghost use Rattle.slab_price.specs.Searches.{IsQuestion, IsScope, IsBest, AreBounds, IsBestOf, IsBestOfPair};
+ghost use Rattle.slab_price.specs.Searches.{IsQuestion, IsHunt, IsBest, IsBestFrom, IsBestOfPair, HasQueueRoom, HasPickRoom};
 
 use crate::best::Best;
+use crate::plan::Plan;
 use crate::question::Question;
-use crate::scope::Scope;
-use crate::stock::Stock;
-use std::alloc::AllocError;
+use crate::queue::Queue;
+use crate::walk::Hunt;
+use mill_model::Kind;
+use std::alloc::{AllocError, Global};
 
-/// The greatest of some sizes.
-pub(crate) fn greatest(sizes: &[u16]) -> u16
-    ensures { All (λ size. size ≤ result) sizes.now }
-{
-    let mut greatest = 0;
-    for &size in sizes {
-        if size > greatest {
-            greatest = size;
-        }
+/// The heads chosen in a walk, room for the orders of their groups, and the best column so far.
+#[derive(Drop)]
+pub(crate) struct Picks {
+    pub chosen: Vec<u16>,
+    pub orders: Vec<u16>,
+    pub best: Best,
+}
+
+impl Picks {
+    /// No column yet, with room for so many orders.
+    pub(crate) fn new(alloc: Global, orders: usize) -> Result<Picks, AllocError>
+        requires { orders ≤ 250 }
+        ensures room { IfOk result (HasPickRoom orders) }
+        ensures none { IfOk result (λ picks. picks.best.excess ≡ pos 0) }
+    {
+        let best = Best {
+            kind: Kind::New(0),
+            orders: Vec::with_capacity(alloc, orders)?,
+            excess: 0,
+        };
+        Ok(Picks {
+            chosen: Vec::with_capacity(alloc, orders)?,
+            orders: Vec::with_capacity(alloc, orders)?,
+            best,
+        })
     }
-    greatest
 }
 
 impl Question<'_> {
-    /// Improves the best by the columns of a scope.
-    fn price_scope(
-        &self,
-        scope: Scope,
-        bounds: &[i128],
-        chosen: &mut Vec<u16>,
-        best: &mut Best,
-    ) -> Result<(), AllocError>
+    /// Whether no column of the two colours exceeds more than the best.
+    fn is_hopeless(&self, plan: &Plan, first: u16, second: u16, best: i128) -> bool
         requires question { IsQuestion self.now.mill.now self.now.table.now self.now.decisions.now self.now.prices.now }
-        requires scope { IsScope self.now.mill.now scope }
-        requires bounds { AreBounds self.now.mill.now self.now.prices.now scope.first scope.second bounds.now }
-        requires chosen { chosen.old.items ≡ [] }
-        requires best { IsBest self.now.mill.now self.now.decisions.now.list self.now.prices.now best.old }
-        ensures chosen { OnOk result (chosen.new.items ≡ []) }
-        ensures grows { OnOk result (best.old.excess ≤ℤ best.new.excess) }
-        ensures kept { OnOk result (IsBest self.now.mill.now self.now.decisions.now.list self.now.prices.now best.new) }
-        ensures greatest { OnOk result (IsBestOf self.now.mill.now self.now.decisions.now.list self.now.prices.now scope.stock scope.first scope.second best.new.excess) }
+        requires plan { IsPlan self.now.mill.now self.now.decisions.now.list self.now.prices.now plan.now }
+        requires first { first ≤ self.now.mill.now.colours }
+        requires second { second ≤ self.now.mill.now.colours }
+        ensures { OnTrue result (IsBestOfPair self.now.mill.now self.now.decisions.now.list self.now.prices.now first second best) }
     {
-        let worth = -self.charge(scope.stock);
-        self.walk(scope, bounds, 0, 0, worth, chosen, best)?;
-        Ok(())
+        plan.most(first, second) + plan.ends[0] <= best
     }
 
-    /// Improves the best by the columns of two colours on surplus slabs.
-    fn price_yard(
-        &self,
-        first: u16,
-        second: u16,
-        bounds: &[i128],
-        chosen: &mut Vec<u16>,
-        best: &mut Best,
-    ) -> Result<(), AllocError>
-        requires question { IsQuestion self.now.mill.now self.now.table.now self.now.decisions.now self.now.prices.now }
-        requires bounds { AreBounds self.now.mill.now self.now.prices.now first second bounds.now }
-        requires chosen { chosen.old.items ≡ [] }
-        requires best { IsBest self.now.mill.now self.now.decisions.now.list self.now.prices.now best.old }
-        ensures chosen { OnOk result (chosen.new.items ≡ []) }
-        ensures grows { OnOk result (best.old.excess ≤ℤ best.new.excess) }
-        ensures kept { OnOk result (IsBest self.now.mill.now self.now.decisions.now.list self.now.prices.now best.new) }
-        ensures greatest { OnOk result ((s : ℕ) → s < length self.now.mill.now.yard → IsBestOf self.now.mill.now self.now.decisions.now.list self.now.prices.now (Surplus s) first second best.new.excess) }
+    /// Improves the best by the columns of the groups in the queue.
+    fn walk_queue(&self, plan: &Plan, queue: &Queue, picks: &mut Picks)
+        requires hunt { IsHunt self.now.mill.now self.now.table.now self.now.decisions.now self.now.prices.now plan.now queue.now }
+        requires picks { HasPickRoom (length self.now.mill.now.orders) picks.old }
+        requires best { IsBest self.now.mill.now self.now.decisions.now.list self.now.prices.now picks.old.best }
+        ensures picks { HasPickRoom (length self.now.mill.now.orders) picks.new }
+        ensures grows { picks.old.best.excess ≤ℤ picks.new.best.excess }
+        ensures kept { IsBest self.now.mill.now self.now.decisions.now.list self.now.prices.now picks.new.best }
+        ensures greatest { IsBestFrom self.now.mill.now self.now.decisions.now.list self.now.prices.now plan.now.groups queue.now.heads.items (length queue.now.heads.items) [] picks.new.best.excess }
     {
-        let count = self.mill.yard().len();
-        for slab in 0..count {
-            let room = u32::from(self.mill.yard()[slab]);
-            let stock = Stock::Surplus(slab as u16);
-            let scope = Scope {
-                stock,
-                room,
-                first,
-                second,
-            };
-            self.price_scope(scope, bounds, chosen, best)?;
-        }
-        Ok(())
+        let hunt = Hunt {
+            question: self,
+            plan,
+            queue,
+        };
+        let left = queue.heads.len();
+        hunt.walk(
+            left,
+            0,
+            0,
+            &mut picks.chosen,
+            &mut picks.orders,
+            &mut picks.best,
+        );
     }
 
     /// Improves the best by the columns of two colours.
-    fn price_pair(
-        &self,
-        first: u16,
-        second: u16,
-        bounds: &mut [i128],
-        chosen: &mut Vec<u16>,
-        best: &mut Best,
-    ) -> Result<(), AllocError>
+    fn price_pair(&self, plan: &Plan, first: u16, second: u16, queue: &mut Queue, picks: &mut Picks)
         requires question { IsQuestion self.now.mill.now self.now.table.now self.now.decisions.now self.now.prices.now }
-        requires size { length bounds.old ≡ length self.now.mill.now.orders + 1 }
-        requires chosen { chosen.old.items ≡ [] }
-        requires best { IsBest self.now.mill.now self.now.decisions.now.list self.now.prices.now best.old }
-        ensures chosen { OnOk result (chosen.new.items ≡ []) }
-        ensures grows { OnOk result (best.old.excess ≤ℤ best.new.excess) }
-        ensures kept { OnOk result (IsBest self.now.mill.now self.now.decisions.now.list self.now.prices.now best.new) }
-        ensures greatest { OnOk result (IsBestOfPair self.now.mill.now self.now.decisions.now.list self.now.prices.now first second best.new.excess) }
+        requires plan { IsPlan self.now.mill.now self.now.decisions.now.list self.now.prices.now plan.now }
+        requires first { first ≤ self.now.mill.now.colours }
+        requires second { second ≤ self.now.mill.now.colours }
+        requires queue { HasQueueRoom (length self.now.mill.now.orders) queue.old }
+        requires picks { HasPickRoom (length self.now.mill.now.orders) picks.old }
+        requires best { IsBest self.now.mill.now self.now.decisions.now.list self.now.prices.now picks.old.best }
+        ensures queue { HasQueueRoom (length self.now.mill.now.orders) queue.new }
+        ensures picks { HasPickRoom (length self.now.mill.now.orders) picks.new }
+        ensures grows { picks.old.best.excess ≤ℤ picks.new.best.excess }
+        ensures kept { IsBest self.now.mill.now self.now.decisions.now.list self.now.prices.now picks.new.best }
+        ensures greatest { IsBestOfPair self.now.mill.now self.now.decisions.now.list self.now.prices.now first second picks.new.best.excess }
     {
-        self.fill_bounds(first, second, bounds);
-        let room = u32::from(greatest(self.mill.sizes()));
-        let scope = Scope {
-            stock: Stock::Cast,
-            room,
-            first,
-            second,
-        };
-        self.price_scope(scope, bounds, chosen, best)?;
-        self.price_yard(first, second, bounds, chosen, best)?;
-        Ok(())
+        if self.is_hopeless(plan, first, second, picks.best.excess) {
+            return;
+        }
+        self.fill_queue(plan, first, second, queue);
+        self.walk_queue(plan, queue, picks);
     }
 
     /// Improves the best by the columns of one colour and another that isn't before it.
-    fn price_pairs(
-        &self,
-        first: u16,
-        bounds: &mut [i128],
-        chosen: &mut Vec<u16>,
-        best: &mut Best,
-    ) -> Result<(), AllocError>
+    fn price_pairs(&self, plan: &Plan, first: u16, queue: &mut Queue, picks: &mut Picks)
         requires question { IsQuestion self.now.mill.now self.now.table.now self.now.decisions.now self.now.prices.now }
-        requires size { length bounds.old ≡ length self.now.mill.now.orders + 1 }
-        requires chosen { chosen.old.items ≡ [] }
-        requires best { IsBest self.now.mill.now self.now.decisions.now.list self.now.prices.now best.old }
-        ensures chosen { OnOk result (chosen.new.items ≡ []) }
-        ensures grows { OnOk result (best.old.excess ≤ℤ best.new.excess) }
-        ensures kept { OnOk result (IsBest self.now.mill.now self.now.decisions.now.list self.now.prices.now best.new) }
-        ensures greatest { OnOk result ((second : ℕ) → first ≤ second → second ≤ self.now.mill.now.colours → IsBestOfPair self.now.mill.now self.now.decisions.now.list self.now.prices.now first second best.new.excess) }
+        requires plan { IsPlan self.now.mill.now self.now.decisions.now.list self.now.prices.now plan.now }
+        requires first { first ≤ self.now.mill.now.colours }
+        requires queue { HasQueueRoom (length self.now.mill.now.orders) queue.old }
+        requires picks { HasPickRoom (length self.now.mill.now.orders) picks.old }
+        requires best { IsBest self.now.mill.now self.now.decisions.now.list self.now.prices.now picks.old.best }
+        ensures queue { HasQueueRoom (length self.now.mill.now.orders) queue.new }
+        ensures picks { HasPickRoom (length self.now.mill.now.orders) picks.new }
+        ensures grows { picks.old.best.excess ≤ℤ picks.new.best.excess }
+        ensures kept { IsBest self.now.mill.now self.now.decisions.now.list self.now.prices.now picks.new.best }
+        ensures greatest { (second : ℕ) → first ≤ second → second ≤ self.now.mill.now.colours → IsBestOfPair self.now.mill.now self.now.decisions.now.list self.now.prices.now first second picks.new.best.excess }
     {
         let end = self.mill.colours() + 1;
         for second in first..end {
-            self.price_pair(first, second, bounds, chosen, best)?;
+            self.price_pair(plan, first, second, queue, picks);
         }
-        Ok(())
     }
 
     /// Improves the best by all columns.
-    pub(crate) fn price(
-        &self,
-        bounds: &mut [i128],
-        chosen: &mut Vec<u16>,
-        best: &mut Best,
-    ) -> Result<(), AllocError>
+    pub(crate) fn price(&self, plan: &Plan, queue: &mut Queue, picks: &mut Picks)
         requires question { IsQuestion self.now.mill.now self.now.table.now self.now.decisions.now self.now.prices.now }
-        requires size { length bounds.old ≡ length self.now.mill.now.orders + 1 }
-        requires chosen { chosen.old.items ≡ [] }
-        requires best { IsBest self.now.mill.now self.now.decisions.now.list self.now.prices.now best.old }
-        ensures kept { OnOk result (IsBest self.now.mill.now self.now.decisions.now.list self.now.prices.now best.new) }
-        ensures greatest { OnOk result (IsGreatest self.now.mill.now self.now.decisions.now.list self.now.prices.now best.new.excess) }
+        requires plan { IsPlan self.now.mill.now self.now.decisions.now.list self.now.prices.now plan.now }
+        requires queue { HasQueueRoom (length self.now.mill.now.orders) queue.old }
+        requires picks { HasPickRoom (length self.now.mill.now.orders) picks.old }
+        requires best { IsBest self.now.mill.now self.now.decisions.now.list self.now.prices.now picks.old.best }
+        ensures kept { IsBest self.now.mill.now self.now.decisions.now.list self.now.prices.now picks.new.best }
+        ensures greatest { IsGreatest self.now.mill.now self.now.decisions.now.list self.now.prices.now picks.new.best.excess }
     {
         let end = self.mill.colours() + 1;
         for first in 1..end {
-            self.price_pairs(first, bounds, chosen, best)?;
+            self.price_pairs(plan, first, queue, picks);
         }
-        Ok(())
     }
 }

@@ -2,10 +2,11 @@ ghost use Rattle.std.specs.Prelude.{pos, ◌≤ℤ◌, IfOk, IfSome, IfNone};
 ghost use Rattle.slab_price.specs.Excess.{BelongTogether, IsGreatest, IsWorst};
 
 use crate::Found;
-use crate::best::Best;
+use crate::pairs::Picks;
 use crate::question::Question;
+use crate::queue::Queue;
 use loss_table::LossTable;
-use mill_model::{Kind, Mill, Prices};
+use mill_model::{Mill, Prices};
 use slab_decide::Decisions;
 use std::alloc::{AllocError, Global};
 
@@ -31,13 +32,9 @@ pub fn worst(
         decisions,
         prices,
     };
-    let mut bounds = vec![in alloc; 0i128; count + 1]?;
-    let mut chosen = Vec::with_capacity(alloc, count)?;
-    let mut best = Best {
-        kind: Kind::New(0),
-        orders: Vec::with_capacity(alloc, count)?,
-        excess: 0,
-    };
-    question.price(&mut bounds, &mut chosen, &mut best)?;
-    Ok(best.found())
+    let plan = question.plan(alloc)?;
+    let mut queue = Queue::new(alloc, count, plan.ends.len())?;
+    let mut picks = Picks::new(alloc, count)?;
+    question.price(&plan, &mut queue, &mut picks);
+    Ok(picks.best.found())
 }

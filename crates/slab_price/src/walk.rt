@@ -1,89 +1,142 @@
-ghost use Rattle.std.specs.Prelude.{◌≡◌, ◌≤◌, pos, ◌≤ℤ◌, length, OnOk};
-ghost use Rattle.mill_model.specs.declared.kind.Kind.{Kind};
-ghost use Rattle.slab_price.specs.Excess.{excess};
-ghost use Rattle.slab_price.specs.Searches.{IsQuestion, IsScope, IsChoice, IsBest, IsBestFrom, AreChosen, AreBounds};
+ghost use Rattle.std.specs.Prelude.{◌≡◌, ◌+◌, ◌^◌, ◌<◌, ◌≤◌, pos, ◌-ℤ◌, ◌≤ℤ◌, unsigned_abs, length, [], ◌++◌, ◌↔◌, IsTrue, true, vec_capacity};
+ghost use Rattle.std.specs.Bool.{OnTrue};
+ghost use Rattle.mill_model.specs.Columns.{has};
+ghost use Rattle.mill_model.specs.Groups.{members};
+ghost use Rattle.slab_price.specs.Bounds.{IsMost};
+ghost use Rattle.slab_price.specs.Groupings.{weight_at, gain_at};
+ghost use Rattle.slab_price.specs.Parts.{left_of};
+ghost use Rattle.slab_price.specs.Searches.{IsHunt, IsBest, IsBestFrom, AreChosen};
 
 use crate::best::Best;
+use crate::plan::Plan;
 use crate::question::Question;
-use crate::scope::Scope;
-use std::alloc::AllocError;
+use crate::queue::Queue;
 
-impl Question<'_> {
-    /// Takes the orders chosen, on the least slab that holds them, where that column is allowed and better than the best.
-    fn offer(
-        &self,
-        scope: Scope,
-        chosen: &[u16],
-        load: u32,
-        worth: i128,
-        best: &mut Best,
-    ) -> Result<(), AllocError>
-        requires question { IsQuestion self.now.mill.now self.now.table.now self.now.decisions.now self.now.prices.now }
-        requires scope { IsScope self.now.mill.now scope }
-        requires chosen { AreChosen self.now.mill.now self.now.prices.now scope (length self.now.mill.now.orders) chosen.now load worth }
-        requires best { IsBest self.now.mill.now self.now.decisions.now.list self.now.prices.now best.old }
-        ensures grows { OnOk result (best.old.excess ≤ℤ best.new.excess) }
-        ensures kept { OnOk result (IsBest self.now.mill.now self.now.decisions.now.list self.now.prices.now best.new) }
-        ensures greatest { OnOk result ((kind : Kind) → IsChoice self.now.mill.now self.now.decisions.now.list scope.stock kind chosen.now → excess self.now.mill.now self.now.prices.now (record { kind = kind; orders = chosen.now }) ≤ℤ best.new.excess) }
+/// What a walk goes by.
+#[derive(Clone, Copy)]
+pub(crate) struct Hunt<'a> {
+    pub question: &'a Question<'a>,
+    pub plan: &'a Plan,
+    pub queue: &'a Queue,
+}
+
+/// Whether a list has a number.
+fn has(list: &[u16], number: u16) -> bool
+    ensures { result ≡ has list.now number }
+{
+    for &other in list {
+        if other == number {
+            return true;
+        }
+    }
+    false
+}
+
+/// Lists the orders whose heads are among some.
+fn list_members(heads: &[u16], chosen: &[u16], orders: &mut Vec<u16>)
+    requires few { length heads.now ≤ 250 }
+    requires room { length heads.now ≤ vec_capacity orders.old }
+    ensures members { orders.new.items ≡ members heads.now chosen.now }
+    ensures room { vec_capacity orders.new ≡ vec_capacity orders.old }
+{
+    orders.clear();
+    for order in 0..heads.len() {
+        if has(chosen, heads[order]) {
+            orders.push_reserved(order as u16);
+        }
+    }
+}
+
+impl Hunt<'_> {
+    /// What the first groups of the queue gain at most beside a load.
+    fn most(&self, left: usize, load: u32) -> i128
+        requires hunt { IsHunt self.now.question.now.mill.now self.now.question.now.table.now self.now.question.now.decisions.now self.now.question.now.prices.now self.now.plan.now self.now.queue.now }
+        requires left { left ≤ length self.now.queue.now.heads.items }
+        requires load { load < length self.now.plan.now.ends.items }
+        ensures most { IsMost self.now.question.now.mill.now self.now.question.now.prices.now self.now.plan.now.groups (left_of self.now.queue.now.heads.items left) load result }
+        ensures small { unsigned_abs result ≤ 2 ^ 110 }
     {
-        let Some(kind) = self.kind_for(scope.stock, load) else {
-            return Ok(());
-        };
-        let excess = worth - self.loss_price(self.size(kind) - load);
-        if excess <= best.excess {
-            return Ok(());
+        let loads = self.plan.ends.len();
+        match self.queue.table.get(left * loads + load as usize) {
+            Some(&most) => most,
+            None => self.queue.rest[left] + self.plan.ends[load as usize],
         }
-        if chosen.is_empty() {
-            return Ok(());
-        }
-        if !self.decisions.allows(kind, chosen) {
-            return Ok(());
-        }
-        best.replace(kind, chosen, excess)?;
-        Ok(())
     }
 
-    /// Improves the best by the columns of the orders chosen and orders from `at` on. A branch is left out only where its
-    /// bound isn't above the best.
+    /// Whether the groups chosen and some of the first ones can't exceed more than the best.
+    fn is_hopeless(&self, left: usize, load: u32, gain: i128, best: i128) -> bool
+        requires hunt { IsHunt self.now.question.now.mill.now self.now.question.now.table.now self.now.question.now.decisions.now self.now.question.now.prices.now self.now.plan.now self.now.queue.now }
+        requires left { left ≤ length self.now.queue.now.heads.items }
+        requires load { load < length self.now.plan.now.ends.items }
+        requires small { unsigned_abs gain ≤ 2 ^ 92 }
+        ensures { OnTrue result (IsMost self.now.question.now.mill.now self.now.question.now.prices.now self.now.plan.now.groups (left_of self.now.queue.now.heads.items left) load (best -ℤ gain)) }
+    {
+        gain + self.most(left, load) <= best
+    }
+
+    /// Offers the orders of the groups chosen.
+    fn offer(&self, weight: u32, gain: i128, chosen: &[u16], orders: &mut Vec<u16>, best: &mut Best)
+        requires hunt { IsHunt self.now.question.now.mill.now self.now.question.now.table.now self.now.question.now.decisions.now self.now.question.now.prices.now self.now.plan.now self.now.queue.now }
+        requires chosen { AreChosen self.now.plan.now.groups self.now.queue.now.heads.items 0 chosen.now weight gain }
+        requires orders { length self.now.question.now.mill.now.orders ≤ vec_capacity orders.old }
+        requires best { IsBest self.now.question.now.mill.now self.now.question.now.decisions.now.list self.now.question.now.prices.now best.old }
+        requires room { length self.now.question.now.mill.now.orders ≤ vec_capacity best.old.orders }
+        ensures orders { length self.now.question.now.mill.now.orders ≤ vec_capacity orders.new }
+        ensures room { length self.now.question.now.mill.now.orders ≤ vec_capacity best.new.orders }
+        ensures grows { best.old.excess ≤ℤ best.new.excess }
+        ensures kept { IsBest self.now.question.now.mill.now self.now.question.now.decisions.now.list self.now.question.now.prices.now best.new }
+        ensures greatest { IsBestFrom self.now.question.now.mill.now self.now.question.now.decisions.now.list self.now.question.now.prices.now self.now.plan.now.groups self.now.queue.now.heads.items 0 chosen.now best.new.excess }
+    {
+        list_members(self.plan.groups.heads(), chosen, orders);
+        if !orders.is_empty() {
+            self.question.offer(weight, gain, orders, best);
+        }
+    }
+
+    /// Improves the best by the columns of the groups chosen and some of the first ones of the queue. A branch is left out only
+    /// where its bound isn't above the best.
     pub(crate) fn walk(
         &self,
-        scope: Scope,
-        bounds: &[i128],
-        at: usize,
-        load: u32,
-        worth: i128,
+        left: usize,
+        weight: u32,
+        gain: i128,
         chosen: &mut Vec<u16>,
+        orders: &mut Vec<u16>,
         best: &mut Best,
-    ) -> Result<(), AllocError>
-        requires question { IsQuestion self.now.mill.now self.now.table.now self.now.decisions.now self.now.prices.now }
-        requires scope { IsScope self.now.mill.now scope }
-        requires bounds { AreBounds self.now.mill.now self.now.prices.now scope.first scope.second bounds.now }
-        requires at { at ≤ length self.now.mill.now.orders }
-        requires chosen { AreChosen self.now.mill.now self.now.prices.now scope at chosen.old.items load worth }
-        requires best { IsBest self.now.mill.now self.now.decisions.now.list self.now.prices.now best.old }
-        ensures chosen { OnOk result (chosen.new.items ≡ chosen.old.items) }
-        ensures grows { OnOk result (best.old.excess ≤ℤ best.new.excess) }
-        ensures kept { OnOk result (IsBest self.now.mill.now self.now.decisions.now.list self.now.prices.now best.new) }
-        ensures greatest { OnOk result (IsBestFrom self.now.mill.now self.now.decisions.now.list self.now.prices.now scope at chosen.old.items best.new.excess) }
+    )
+        requires hunt { IsHunt self.now.question.now.mill.now self.now.question.now.table.now self.now.question.now.decisions.now self.now.question.now.prices.now self.now.plan.now self.now.queue.now }
+        requires left { left ≤ length self.now.queue.now.heads.items }
+        requires light { weight < length self.now.plan.now.ends.items }
+        requires chosen { AreChosen self.now.plan.now.groups self.now.queue.now.heads.items left chosen.old.items weight gain }
+        requires capacity { length self.now.queue.now.heads.items ≤ vec_capacity chosen.old }
+        requires orders { length self.now.question.now.mill.now.orders ≤ vec_capacity orders.old }
+        requires best { IsBest self.now.question.now.mill.now self.now.question.now.decisions.now.list self.now.question.now.prices.now best.old }
+        requires room { length self.now.question.now.mill.now.orders ≤ vec_capacity best.old.orders }
+        ensures chosen { chosen.new.items ≡ chosen.old.items }
+        ensures capacity { vec_capacity chosen.new ≡ vec_capacity chosen.old }
+        ensures orders { length self.now.question.now.mill.now.orders ≤ vec_capacity orders.new }
+        ensures room { length self.now.question.now.mill.now.orders ≤ vec_capacity best.new.orders }
+        ensures grows { best.old.excess ≤ℤ best.new.excess }
+        ensures kept { IsBest self.now.question.now.mill.now self.now.question.now.decisions.now.list self.now.question.now.prices.now best.new }
+        ensures greatest { IsBestFrom self.now.question.now.mill.now self.now.question.now.decisions.now.list self.now.question.now.prices.now self.now.plan.now.groups self.now.queue.now.heads.items left chosen.old.items best.new.excess }
     {
-        if at == self.mill.orders().len() {
-            self.offer(scope, chosen.as_slice(), load, worth, best)?;
-            return Ok(());
+        if self.is_hopeless(left, weight, gain, best.excess) {
+            return;
         }
-        if worth + bounds[at] <= best.excess {
-            return Ok(());
+        if left == 0 {
+            self.offer(weight, gain, chosen, orders, best);
+            return;
         }
-        let order = self.order(at);
-        if !scope.admits(order, load) {
-            self.walk(scope, bounds, at + 1, load, worth, chosen, best)?;
-            return Ok(());
+        let head = self.queue.heads[left - 1];
+        let heavier = weight + self.plan.groups.weight(head as usize);
+        if heavier as usize >= self.plan.ends.len() {
+            self.walk(left - 1, weight, gain, chosen, orders, best);
+            return;
         }
-        let taken_load = load + u32::from(order.weight);
-        let taken_worth = worth + self.worth(at);
-        chosen.push(at as u16)?;
-        self.walk(scope, bounds, at + 1, taken_load, taken_worth, chosen, best)?;
+        let richer = gain + self.plan.groups.gain(head as usize);
+        chosen.push_reserved(head);
+        self.walk(left - 1, heavier, richer, chosen, orders, best);
         chosen.pop();
-        self.walk(scope, bounds, at + 1, load, worth, chosen, best)?;
-        Ok(())
+        self.walk(left - 1, weight, gain, chosen, orders, best);
     }
 }

@@ -1,17 +1,18 @@
 use Rattle.std.proofs.Common.{◌≤◌, arith, below_more}
 use Rattle.std.proofs.lemmas.Int.{ints}
 use Rattle.slab_price.specs.Searches.{IsBestOfPair}
-use Rattle.slab_price.proofs.Columns.{at_most}
+use Rattle.slab_price.proofs.Packs.{at_most}
 use Rattle.slab_price.proofs.question.Question.price_pairs.Goals as goal
 
 pub loop-second-preserved : goal.loop-second-preserved
 loop-second-preserved c = record {
-  empty = c.in_ok-price_pair.ensures.chosen;
-  grows = omega (arith, ints, c.loop-second.invariant.grows, c.in_ok-price_pair.ensures.grows);
-  kept = c.in_ok-price_pair.ensures.kept;
-  greatest = λ d low h. below_more (λ e. c.args.first ≤ e → IsBestOfPair c.args.self.now.mill.now c.args.self.now.decisions.now.list c.args.self.now.prices.now c.args.first e c.price_pair.new.best.excess) c.loop-second.second
-      (λ e g f column legal agrees colours. at_most _ _ _ (c.loop-second.invariant.greatest e f g column legal agrees colours) c.in_ok-price_pair.ensures.grows)
-      (λ f. c.in_ok-price_pair.ensures.greatest) d h low;
+  queue = c.price_pair.ensures.queue;
+  picks = c.price_pair.ensures.picks;
+  grows = omega (arith, ints, c.loop-second.invariant.grows, c.price_pair.ensures.grows);
+  kept = c.price_pair.ensures.kept;
+  greatest = λ d low h. below_more (λ e. c.args.first ≤ e → IsBestOfPair c.args.self.now.mill.now c.args.self.now.decisions.now.list c.args.self.now.prices.now c.args.first e c.price_pair.new.picks.best.excess) c.loop-second.second
+      (λ e g f column legal agrees colours. at_most _ _ _ (c.loop-second.invariant.greatest e f g column legal agrees colours) c.price_pair.ensures.grows)
+      (λ f. c.price_pair.ensures.greatest) d h low;
 }
 
 pub returns-clause-greatest : goal.returns-clause-greatest
