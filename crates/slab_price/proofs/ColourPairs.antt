@@ -13,8 +13,8 @@ use Rattle.mill_model.proofs.Groups.{heads_in_rise, whole_groups}
 use Rattle.slab_price.specs.declared.plan.Plan.{Plan}
 use Rattle.slab_price.specs.Bounds.{HaveColours, IsOfColours, IsPlan, plus_of}
 use Rattle.slab_price.specs.Excess.{excess, IsGreatest}
-use Rattle.slab_price.specs.Gains.{gains_of, cost_of}
-use Rattle.slab_price.specs.Groupings.{Groups, AreGroups, gain_at}
+use Rattle.mill_model.specs.Gains.{gains_of, cost_of}
+use Rattle.mill_model.specs.Groupings.{Groups, AreGroups, gain_at}
 use Rattle.slab_price.specs.Parts.{IsPart, left_of}
 use Rattle.slab_price.specs.Searches.{IsBestFrom, IsBestOn, IsBestOfPair}
 use Rattle.slab_price.proofs.Colours.{pair_of}

@@ -10,20 +10,16 @@ use Rattle.mill_model.specs.Columns.{IsInStock, IsLegalColumn, load, size_of}
 use Rattle.mill_model.specs.Prices.{Prices}
 use Rattle.mill_model.specs.Decisions.{Decision, column_agrees}
 use Rattle.mill_model.proofs.Sizes.{column_agrees_any_size}
-use Rattle.loss_table.specs.LeastSizes.{IsLeastSize}
-use Rattle.slab_decide.specs.Decided.{Decisions, IsKindOf}
+use Rattle.mill_model.specs.LeastSizes.{IsLeastSize}
 use Rattle.slab_price.specs.declared.best.Best.{Best}
-use Rattle.slab_price.specs.Excess.{excess, IsFound, IsOfLeastSize}
-use Rattle.slab_price.specs.Gains.{cost_of}
+use Rattle.mill_model.specs.LeastSizes.{IsOfLeastSize}
+use Rattle.slab_price.specs.Excess.{excess, IsFound}
+use Rattle.mill_model.specs.Gains.{cost_of}
 use Rattle.slab_price.specs.Searches.{IsBest, IsBestOn, IsPack}
 use Rattle.slab_price.proofs.Excesses.{cost_rises, excess_split}
 
 pub at_most : (a b c : ℤ) → a ≤ℤ b → b ≤ℤ c → a ≤ℤ c
 at_most a b c h k = omega (arith, ints)
-
-pub kind_of_yard : (m : Mill) (decisions : Decisions) (kind : Kind) → decisions.yard ≡ length m.yard → IsInStock m kind → IsKindOf decisions kind
-kind_of_yard m decisions (New size) e h = tt
-kind_of_yard m decisions (Old s) e h = subst (λ (n : ℕ). s < n) (sym e) h
 
 pub best_sign : (m : Mill) (decisions : List Decision) (p : Prices) (best : Best) → IsBest m decisions p best → pos 0 ≤ℤ best.excess
 best_sign m decisions p best (inl e) = omega (arith, ints, e)

@@ -10,7 +10,7 @@ use Rattle.mill_model.specs.Prices.{Prices}
 use Rattle.mill_model.specs.Decisions.{Decision, column_agrees}
 use Rattle.mill_model.proofs.Groups.{has-members, members_rise}
 use Rattle.slab_price.specs.Bounds.{HasColour, HaveColours, IsOfColours, AreMarked, IsMarked, AreGathered, AreQueued, AreWeighed}
-use Rattle.slab_price.specs.Groupings.{Groups, AreGroups}
+use Rattle.mill_model.specs.Groupings.{Groups, AreGroups}
 use Rattle.slab_price.specs.Parts.{IsPart, left_of}
 use Rattle.slab_price.proofs.Colours.{has_all, two_colours_at_most}
 use Rattle.slab_price.proofs.Parts.{left_each, part_all}

@@ -11,7 +11,7 @@ use Rattle.mill_model.specs.Mill.{Mill}
 use Rattle.mill_model.specs.SignedSums.{total_by}
 use Rattle.mill_model.specs.Columns.{Rises, order_at}
 use Rattle.slab_price.specs.Bounds.{HasColour, HaveColours, plus_of, ArePlus, AreRests}
-use Rattle.slab_price.specs.Groupings.{Groups, gain_at}
+use Rattle.mill_model.specs.Groupings.{Groups, gain_at}
 use Rattle.slab_price.specs.Parts.{IsPart, left_of}
 use Rattle.slab_price.proofs.Parts.{left_more}
 

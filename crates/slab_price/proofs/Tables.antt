@@ -13,7 +13,7 @@ use Rattle.mill_model.specs.SignedSums.{total_by}
 use Rattle.mill_model.specs.Mill.{Mill}
 use Rattle.mill_model.specs.Prices.{Prices}
 use Rattle.slab_price.specs.Bounds.{AreEnds, AreRests, IsMost, IsTable}
-use Rattle.slab_price.specs.Groupings.{Groups, weight_at, gain_at}
+use Rattle.mill_model.specs.Groupings.{Groups, weight_at, gain_at}
 use Rattle.slab_price.specs.Parts.{IsPart, left_of}
 use Rattle.slab_price.proofs.Parts.{left_more}
 

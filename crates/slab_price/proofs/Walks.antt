@@ -17,8 +17,8 @@ use Rattle.mill_model.proofs.Groups.{members_rise}
 use Rattle.mill_model.proofs.Signed.{total_by-append}
 use Rattle.slab_price.specs.Bounds.{AreEnds, AreQueued, IsMost}
 use Rattle.slab_price.specs.Excess.{excess}
-use Rattle.slab_price.specs.Gains.{gains_of, cost_of}
-use Rattle.slab_price.specs.Groupings.{Groups, AreGroups, weight_at, gain_at}
+use Rattle.mill_model.specs.Gains.{gains_of, cost_of}
+use Rattle.mill_model.specs.Groupings.{Groups, AreGroups, weight_at, gain_at}
 use Rattle.slab_price.specs.Parts.{IsPart, left_of}
 use Rattle.slab_price.specs.Searches.{AreChosen, IsBestFrom, IsBestOn, IsPack}
 use Rattle.slab_price.proofs.Excesses.{excess_split}

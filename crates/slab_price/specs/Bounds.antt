@@ -9,8 +9,8 @@ use Rattle.mill_model.specs.Groups.{head_of, members}
 use Rattle.mill_model.specs.Prices.{Prices}
 use Rattle.mill_model.specs.Decisions.{Decision}
 use Rattle.slab_price.specs.declared.plan.Plan.{Plan}
-use Rattle.slab_price.specs.Gains.{cost_of}
-use Rattle.slab_price.specs.Groupings.{Groups, AreGroups, weight_at, gain_at}
+use Rattle.mill_model.specs.Gains.{cost_of}
+use Rattle.mill_model.specs.Groupings.{Groups, AreGroups, weight_at, gain_at}
 use Rattle.slab_price.specs.Parts.{IsPart, left_of}
 
 -- the order's colour is one of two

@@ -1,24 +1,17 @@
 -- How far a column's worth exceeds its price, and the column of greatest excess.
 use Rattle.std.specs.Prelude.{◌≡◌, ℕ, ℤ, pos, ◌-ℤ◌, ◌*ℤ◌, ◌≤ℤ◌, ◌<ℤ◌, true, List, length}
-use Rattle.mill_model.specs.declared.kind.Kind.{Kind}
-use Rattle.mill_model.specs.declared.kind.Kind.TheVariants.{New, Old}
 use Rattle.mill_model.specs.Mill.{Mill}
 use Rattle.mill_model.specs.SignedSums.{total_by}
 use Rattle.mill_model.specs.Columns.{Column, IsLegalColumn, load, loss_of}
 use Rattle.mill_model.specs.Prices.{Prices, price_at, charge}
 use Rattle.mill_model.specs.Decisions.{Decision, column_agrees}
-use Rattle.mill_model.specs.LeastSizes.{IsLeastSize}
+use Rattle.mill_model.specs.LeastSizes.{IsOfLeastSize}
 use Rattle.slab_decide.specs.Decided.{Decisions}
 use Rattle.slab_price.specs.Found.{Found}
 
 -- what the orders are worth, less the price of the loss and the charge of the slab: the reduced cost with its sign turned
 abbrev pub excess : Mill → Prices → Column → ℤ
 excess m p c = (total_by (price_at p.pi) c.orders -ℤ p.lambda *ℤ pos (loss_of m c)) -ℤ charge p c.kind
-
--- a new slab is of the least size that holds the load
-abbrev pub IsOfLeastSize : Mill → ℕ → Kind → Type 0
-IsOfLeastSize m weight (New size) = IsLeastSize m.sizes weight size
-IsOfLeastSize m weight (Old s) = Unit {0}
 
 -- each legal column that agrees with the decisions has an excess of at most this
 abbrev pub IsGreatest : Mill → List Decision → Prices → ℤ → Type 0

@@ -1,6 +1,5 @@
 pub mod Excess
 pub mod Found
-pub mod Gains
 pub mod Groupings
 pub mod Parts
 pub mod Bounds

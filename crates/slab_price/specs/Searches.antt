@@ -16,8 +16,8 @@ use Rattle.slab_price.specs.declared.queue.Queue.{Queue}
 use Rattle.slab_price.specs.Bounds.{HaveColours, IsPlan, AreQueued, AreRests, IsTable}
 use Rattle.slab_price.specs.Excess.{excess, BelongTogether, IsFound}
 use Rattle.slab_price.specs.Found.{Found}
-use Rattle.slab_price.specs.Gains.{gains_of}
-use Rattle.slab_price.specs.Groupings.{Groups, weight_at, gain_at}
+use Rattle.mill_model.specs.Gains.{gains_of}
+use Rattle.mill_model.specs.Groupings.{Groups, weight_at, gain_at}
 use Rattle.slab_price.specs.Parts.{IsPart, left_of}
 
 -- a mill with all that is asked about it

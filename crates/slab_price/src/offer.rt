@@ -3,8 +3,8 @@ ghost use Rattle.std.specs.Prelude.{◌≡◌, ◌<◌, ◌≤◌, ℕ, ◌-ℤ�
 ghost use Rattle.mill_model.specs.declared.kind.Kind.{Kind};
 ghost use Rattle.mill_model.specs.Columns.{IsInStock, IsLegalColumn, size_of};
 ghost use Rattle.mill_model.specs.Decisions.{column_agrees};
-ghost use Rattle.slab_price.specs.Excess.{IsOfLeastSize};
-ghost use Rattle.slab_price.specs.Gains.{cost_of};
+ghost use Rattle.mill_model.specs.LeastSizes.{IsOfLeastSize};
+ghost use Rattle.mill_model.specs.Gains.{cost_of};
 ghost use Rattle.slab_price.specs.Searches.{IsQuestion, IsPack, IsBest, IsBestOn};
 
 use crate::best::Best;

@@ -1,7 +1,7 @@
 ghost use Rattle.std.specs.Prelude.{◌≡◌, ◌^◌, ◌≤◌, pos, ◌*ℤ◌, unsigned_abs};
 ghost use Rattle.mill_model.specs.Columns.{IsInStock, size_of};
 ghost use Rattle.mill_model.specs.Prices.{charge};
-ghost use Rattle.slab_price.specs.Gains.{cost_of};
+ghost use Rattle.mill_model.specs.Gains.{cost_of};
 ghost use Rattle.slab_price.specs.Searches.{IsQuestion};
 
 use loss_table::LossTable;

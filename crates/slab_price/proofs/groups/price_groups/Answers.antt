@@ -3,8 +3,9 @@ use Rattle.std.specs.Prelude.{unsigned_abs}
 use Rattle.std.specs.Int.{w128}
 use Rattle.std.proofs.lemmas.Int.{ints}
 use Rattle.mill_model.proofs.Groups.{AreTotals}
-use Rattle.slab_price.specs.Gains.{gain_of}
-use Rattle.slab_price.proofs.Groupings.{entry_back, small_more, priced_more, gains_done}
+use Rattle.mill_model.specs.Gains.{gain_of}
+use Rattle.mill_model.proofs.Groupings.{small_more, priced_more, gains_done}
+use Rattle.slab_price.proofs.Groupings.{entry_back}
 use Rattle.slab_price.proofs.groups.price_groups.Goals as goal
 
 pub overflow_add-gains : goal.overflow_add-gains

@@ -2,7 +2,7 @@ use Rattle.std.proofs.Common.{◌≡◌, ℕ, ◌<◌, ◌≤◌, List, length, 
 use Rattle.mill_model.specs.declared.order.Order.{Order}
 use Rattle.mill_model.specs.Columns.{order_at}
 use Rattle.mill_model.proofs.Groups.{AreSums}
-use Rattle.slab_price.proofs.Groupings.{light_more, weighed_more, weights_done}
+use Rattle.mill_model.proofs.Groupings.{light_more, weighed_more, weights_done}
 use Rattle.slab_price.proofs.groups.weigh_groups.Goals as goal
 
 pub loop-order-preserved : goal.loop-order-preserved

@@ -4,7 +4,7 @@ use Rattle.std.specs.Int.{w128}
 use Rattle.std.proofs.lemmas.Int.{ints}
 use Rattle.std.proofs.Math.Seq.{get_or-append_seam}
 use Rattle.slab_price.specs.Bounds.{AreRests}
-use Rattle.slab_price.specs.Groupings.{gain_at}
+use Rattle.mill_model.specs.Groupings.{gain_at}
 use Rattle.slab_price.proofs.Numbers.{sum_back, max_small}
 use Rattle.slab_price.proofs.Sums.{rests_more}
 use Rattle.slab_price.proofs.rests.sum_rests.Goals as goal

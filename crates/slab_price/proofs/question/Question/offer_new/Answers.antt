@@ -3,8 +3,8 @@ use Rattle.std.specs.Prelude.{◌-ℤ◌}
 use Rattle.std.proofs.lemmas.Int.{ints}
 use Rattle.mill_model.specs.declared.kind.Kind.TheVariants.{New}
 use Rattle.mill_model.specs.Decisions.{column_agrees}
-use Rattle.slab_price.specs.Gains.{cost_of}
-use Rattle.loss_table.specs.LeastSizes.{IsLeastSize}
+use Rattle.mill_model.specs.Gains.{cost_of}
+use Rattle.mill_model.specs.LeastSizes.{IsLeastSize}
 use Rattle.slab_price.proofs.Packs.{pack_new}
 use Rattle.slab_price.proofs.question.Question.offer_new.Goals as goal
 

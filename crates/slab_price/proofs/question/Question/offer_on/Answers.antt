@@ -3,16 +3,13 @@ use Rattle.std.specs.Prelude.{◌-ℤ◌, ◌<ℤ◌, unsigned_abs}
 use Rattle.std.specs.Int.{w128}
 use Rattle.std.proofs.lemmas.Int.{ints}
 use Rattle.mill_model.specs.Decisions.{column_agrees}
-use Rattle.slab_price.specs.Gains.{cost_of}
-use Rattle.slab_price.proofs.Packs.{best_sign, kind_of_yard, pack_found}
+use Rattle.mill_model.specs.Gains.{cost_of}
+use Rattle.slab_price.proofs.Packs.{best_sign, pack_found}
 use Rattle.slab_price.proofs.Queues.{rises_length}
 use Rattle.slab_price.proofs.question.Question.offer_on.Goals as goal
 
 pub returns-then-excess-best-clause-greatest : goal.returns-then-excess-best-clause-greatest
 returns-then-excess-best-clause-greatest c agrees = omega (arith, ints, c.if-excess-best.true, c.requires.pack.small, c.cost.ensures.small, c.cost.ensures.cost)
-
-pub allows-requires-clause-kind : goal.allows-requires-clause-kind
-allows-requires-clause-kind c = kind_of_yard c.args.self.now.mill.now c.args.self.now.decisions.now c.args.kind c.requires.question.together.yard c.requires.stock
 
 pub replace-requires : goal.replace-requires
 replace-requires c = record { room = omega (arith, rises_length 0 (length c.args.self.now.mill.now.orders) c.args.orders.now (omega arith) c.requires.pack.rises, c.requires.room) }

@@ -6,7 +6,7 @@ use Rattle.mill_model.specs.declared.order.Order.{Order}
 use Rattle.mill_model.specs.Mill.{IsBetween}
 use Rattle.mill_model.specs.Columns.{order_at}
 use Rattle.slab_price.specs.Bounds.{ArePlus}
-use Rattle.slab_price.specs.Groupings.{gain_at}
+use Rattle.mill_model.specs.Groupings.{gain_at}
 use Rattle.slab_price.proofs.Numbers.{sum_back, max_small}
 use Rattle.slab_price.proofs.Sums.{plus_more}
 use Rattle.slab_price.proofs.question.Question.sum_up.Goals as goal

@@ -4,7 +4,7 @@ use Rattle.std.specs.Int.{w128}
 use Rattle.std.proofs.lemmas.Int.{ints}
 use Rattle.std.proofs.lemmas.List.{get_or_default}
 use Rattle.slab_price.specs.Bounds.{IsMost}
-use Rattle.slab_price.specs.Groupings.{weight_at, gain_at}
+use Rattle.mill_model.specs.Groupings.{weight_at, gain_at}
 use Rattle.slab_price.specs.Parts.{left_of}
 use Rattle.slab_price.specs.Searches.{AreChosen, IsBestFrom}
 use Rattle.slab_price.proofs.Numbers.{sum_back}
