@@ -1,5 +1,5 @@
 -- From the groups of two colours to all columns.
-use Rattle.std.proofs.Common.{◌≡◌, ℕ, ◌+◌, ◌<◌, ◌≤◌, pos, ◌+ℤ◌, ◌≤ℤ◌, ℤ, true, List, [], length, get_or, sym, subst, ◌∙◌, ap, arith}
+use Rattle.std.proofs.Common.{◌≡◌, ℕ, ◌≤◌, pos, ◌+ℤ◌, ◌≤ℤ◌, ℤ, true, List, [], length, get_or, sym, subst, ◌∙◌, ap, arith}
 use Rattle.std.specs.Prelude.{◌-ℤ◌}
 use Rattle.std.specs.List.{AllByRecursion}
 use Rattle.std.proofs.lemmas.Int.{ints}
@@ -11,8 +11,8 @@ use Rattle.mill_model.specs.Prices.{Prices}
 use Rattle.mill_model.specs.Decisions.{Decision, column_agrees}
 use Rattle.mill_model.proofs.Groups.{heads_in_rise, whole_groups}
 use Rattle.slab_price.specs.declared.plan.Plan.{Plan}
-use Rattle.slab_price.specs.Bounds.{HaveColours, IsOfColours, IsPlan, plus_of}
-use Rattle.slab_price.specs.Excess.{excess, IsGreatest}
+use Rattle.slab_price.specs.Bounds.{IsOfColours, IsPlan, plus_of}
+use Rattle.slab_price.specs.Excess.{IsGreatest}
 use Rattle.mill_model.specs.Gains.{gains_of, cost_of}
 use Rattle.mill_model.specs.Groupings.{Groups, AreGroups, gain_at}
 use Rattle.slab_price.specs.Parts.{IsPart, left_of}

@@ -1,25 +1,21 @@
 -- Orders that the decisions put together, and groups that are weighed and priced.
-use Rattle.std.proofs.Common.{◌≡◌, ℕ, ◌+◌, ◌*◌, ◌^◌, ◌<◌, ◌≤◌, ℤ, pos, ◌+ℤ◌, ◌*ℤ◌, Bool, true, false, cond, not, List, [], ◌∷◌, length, get_or, set, refl, sym, ap, ◌∙◌, subst, inl, inr, arith, get_or-set_same, get_or-set_other, to_z, of_z, Option, Some, None}
+use Rattle.std.proofs.Common.{◌≡◌, ℕ, ◌*◌, ◌^◌, ◌<◌, ◌≤◌, ℤ, pos, ◌+ℤ◌, ◌*ℤ◌, Bool, true, false, cond, not, List, length, get_or, refl, sym, ap, ◌∙◌, inl, inr, arith, to_z, of_z, Option, Some, None}
 use Rattle.std.specs.Prelude.{unsigned_abs, IfSome, IfNone}
 use Rattle.std.specs.Bool.{beq, OnTrue, OnFalse}
 use Rattle.std.specs.Option.{option_eq}
 use Rattle.std.specs.Int.{w64, w128}
-use Rattle.std.proofs.lemmas.Bool.{cases_eq, cases_lt, both_ways}
+use Rattle.std.proofs.lemmas.Bool.{cases_lt, both_ways}
 use Rattle.std.proofs.lemmas.Int.{ints, unsigned_abs-mul}
 use Rattle.std.proofs.lemmas.Nat.{mul-le}
 use Rattle.mill_model.specs.declared.ask.Ask.TheVariants.{Pair}
-use Rattle.mill_model.specs.Mill.{Mill}
-use Rattle.mill_model.specs.Prices.{Prices, IsPrice}
-use Rattle.mill_model.specs.Columns.{has, order_at, load}
+use Rattle.mill_model.specs.Prices.{IsPrice}
+use Rattle.mill_model.specs.Columns.{has}
 use Rattle.mill_model.specs.Decisions.{Decision}
 use Rattle.mill_model.specs.Assignments.{Follows}
-use Rattle.mill_model.specs.Groups.{head_of, AreHeads, members}
+use Rattle.mill_model.specs.Groups.{head_of, AreHeads}
 use Rattle.mill_model.proofs.Closing.{same_group-true, same_group_from}
 use Rattle.mill_model.proofs.Agreement.{column_follows}
-use Rattle.mill_model.proofs.Groups.{total-members, sum-members, total_rising, sum_rising, AreSums, AreTotals, sums_more, totals_more, sums_all, totals_all}
 use Rattle.slab_decide.specs.Decided.{AreConsistent, IsOpen}
-use Rattle.mill_model.specs.Gains.{gain_of, gains_of}
-use Rattle.mill_model.specs.Groupings.{Groups, AreBefore, AreWeights, AreGains, AreGroups, weight_at, gain_at}
 use Rattle.slab_price.specs.Groupings.{AreAlike, IsHead}
 
 -- ---- orders that lie together

@@ -1,4 +1,4 @@
-use Rattle.std.proofs.Common.{refl, ◌≡◌, ◌≤ℤ◌, ◌≤◌, ◌^◌, pos, ◌+ℤ◌, ℤ, true, get_or, ◌∙◌, arith, to_z, of_z}
+use Rattle.std.proofs.Common.{refl, ◌≡◌, ◌≤ℤ◌, ◌≤◌, ◌^◌, pos, ◌+ℤ◌, true, get_or, ◌∙◌, arith, to_z, of_z}
 use Rattle.std.specs.Prelude.{unsigned_abs}
 use Rattle.std.specs.Int.{w128}
 use lib.Signed.{le_z}

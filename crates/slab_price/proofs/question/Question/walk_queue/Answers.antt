@@ -1,7 +1,6 @@
-use Rattle.std.proofs.Common.{◌≡◌, ℕ, ◌+◌, ◌≤◌, pos, ℤ, List, [], length, sym, subst, arith}
-use Rattle.slab_price.specs.Searches.{AreChosen, IsBestFrom}
+use Rattle.std.proofs.Common.{◌≡◌, ℕ, List, [], length, subst, arith}
+use Rattle.slab_price.specs.Searches.{IsBestFrom}
 use Rattle.slab_price.proofs.Queues.{length-left_of, rises_length}
-use Rattle.slab_price.proofs.Walks.{chosen_none}
 use Rattle.slab_price.proofs.question.Question.walk_queue.Goals as goal
 
 pub walk-requires-clause-light : goal.walk-requires-clause-light

@@ -1,10 +1,9 @@
-use Rattle.std.proofs.Common.{◌≡◌, ◌≤ℤ◌, pos, ◌+ℤ◌, ℤ, true, subst, arith, to_z, of_z}
+use Rattle.std.proofs.Common.{◌≡◌, ◌≤ℤ◌, ◌+ℤ◌, true, arith, to_z, of_z}
 use Rattle.std.specs.Prelude.{◌-ℤ◌}
 use Rattle.std.specs.Int.{w128}
 use lib.Signed.{le_z}
 use Rattle.std.proofs.lemmas.Int.{ints}
 use Rattle.std.proofs.lemmas.Bool.{OnTrue_from}
-use Rattle.slab_price.specs.Bounds.{IsMost}
 use Rattle.slab_price.specs.Parts.{left_of}
 use Rattle.slab_price.proofs.Numbers.{le_true}
 use Rattle.slab_price.proofs.Tables.{most_weaker}

@@ -6,7 +6,7 @@ use Rattle.std.proofs.lemmas.Int.{ints}
 use Rattle.std.proofs.lemmas.Bool.{eqb-false}
 use Rattle.mill_model.specs.Groups.{members}
 use Rattle.slab_price.specs.Searches.{IsPack}
-use Rattle.slab_price.proofs.Walks.{chosen_pack, chosen_small, best_at_end}
+use Rattle.slab_price.proofs.Walks.{chosen_pack, chosen_small}
 use Rattle.slab_price.proofs.walk.Hunt.offer.Goals as goal
 
 pub offer-requires-clause-pack : goal.offer-requires-clause-pack
