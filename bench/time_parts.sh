@@ -48,7 +48,7 @@ for work in "12 10000 50" "113 10000 10" "252 10000 5"; do
     printf '%8s %8s %6s %8s %9s\n' "$size" "$count" "$times" "$s" "$(rate "$((count * times))" "$s")"
 done
 
-echo "leaves of random mills (88 colours, 20 sizes), under so many decisions, whose prices refute:"
+echo "leaves of random mills (88 colours, 20 sizes), whose prices refute, under so many decisions (or as many as there are pairs):"
 printf '%7s %10s %6s %8s %9s\n' orders decisions times seconds leaves/s
 for size in 10 50 111 250; do
     for count in 0 100 5000; do

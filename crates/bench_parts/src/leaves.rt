@@ -13,15 +13,28 @@ use std::alloc::{AllocError, Global};
 /// The sizes and the number of colours of CSPLib's instance.
 const SIZES: &[u8] = b"20 12 14 17 18 19 20 23 24 25 26 27 28 29 30 32 35 39 42 43 44 88 ";
 
-/// Tests one leaf under so many decisions as often as the work names, and counts how often its prices refute.
-pub fn test_leaves(alloc: Global, work: &Work) -> Result<u64, AllocError> {
+/// How often the prices refuted, and how many decisions there were.
+#[derive(Clone, Copy, Debug)]
+pub struct Tested {
+    pub refuting: u64,
+    pub decisions: u16,
+}
+
+/// Tests one leaf under so many decisions, or as many as the mill has pairs, as often as the work names.
+pub fn test_leaves(alloc: Global, work: &Work) -> Result<Tested, AllocError> {
+    let mut tested = Tested {
+        refuting: 0,
+        decisions: 0,
+    };
     let Some(mill) = random_mill(alloc, work.size, work.seed)? else {
-        return Ok(0);
+        return Ok(tested);
     };
     let mut path = Path::new(alloc, &mill)?;
-    decide(&mill, &mut path, work.count);
+    let left = decide(&mill, &mut path, work.count);
+    tested.decisions = work.count.saturating_sub(left);
     let line = plain_leaf(alloc, mill.orders().len())?;
-    Ok(count_refuting(&mill, &mut path, &line, work.times))
+    tested.refuting = count_refuting(&mill, &mut path, &line, work.times);
+    Ok(tested)
 }
 
 /// A mill of so many random orders, with CSPLib's sizes and number of colours; none for more than 250 orders.
@@ -42,8 +55,8 @@ fn random_mill(alloc: Global, orders: u16, seed: u16) -> Result<Option<Mill>, Al
     Ok(read_orders(alloc, &bytes).ok())
 }
 
-/// Answers no to as many of the mill's pairs as wanted, the first orders first.
-fn decide(mill: &Mill, path: &mut Path, count: u16)
+/// Answers no to as many of the mill's pairs as wanted, the first orders first, and gives how many are still wanted.
+fn decide(mill: &Mill, path: &mut Path, count: u16) -> u16
     requires { path.old.orders ≡ length mill.now.orders }
     ensures orders { path.new.orders ≡ path.old.orders }
     ensures slabs { path.new.slabs ≡ path.old.slabs }
@@ -53,6 +66,7 @@ fn decide(mill: &Mill, path: &mut Path, count: u16)
     'greater: for j in 0..orders {
         left = decide_below(path, j as u16, left);
     }
+    left
 }
 
 /// Answers no to the pairs of an order with those before it, at most as many as wanted, and gives how many are still wanted.

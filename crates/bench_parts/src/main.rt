@@ -65,8 +65,11 @@ fn run_sized<R: AllocGlobal + Print>(rt: &R, work: &Work) -> io::Result<()>
             println!(rt; "sum {sum}")
         }
         Part::Leaves => {
-            let good = leaves::test_leaves(alloc, work)?;
-            println!(rt; "refuting {good}")
+            let tested = leaves::test_leaves(alloc, work)?;
+            println!(rt;
+                "refuting {} decisions {}",
+                tested.refuting, tested.decisions
+            )
         }
     }
 }
