@@ -1,5 +1,6 @@
 //! The groups all of whose orders are of two colours.
 ghost use Rattle.std.specs.Prelude.{◌≡◌, ◌≤◌, ◌<◌, ◌↔◌, IsTrue, length, vec_capacity};
+ghost use Rattle.mill_model.specs.Groups.{head_of};
 ghost use Rattle.price_check.specs.Search.{IsOf, IsGroupOf, IsQueue};
 
 use mill_model::Mill;
@@ -26,6 +27,19 @@ fn is_group_of(mill: &Mill, heads: &[u16], first: u16, second: u16, head: u16) -
     true
 }
 
+// Whether an order is the head of such a group.
+fn is_head_of(mill: &Mill, heads: &[u16], first: u16, second: u16, head: u16) -> bool
+    requires size { length heads.now ≡ length mill.now.orders }
+    requires head { head < length heads.now }
+    ensures { IsTrue result ↔ ((head_of heads.now head ≡ head) × IsGroupOf mill.now heads.now first second head) }
+{
+    let order = usize::from(head);
+    if heads[order] != head || !is_of(mill, first, second, order) {
+        return false;
+    }
+    is_group_of(mill, heads, first, second, head)
+}
+
 // Lists the heads of these groups.
 pub(crate) fn fill_queue(
     mill: &Mill,
@@ -44,7 +58,7 @@ pub(crate) fn fill_queue(
     prove!(few <= 250);
     for order in 0..heads.len() {
         let head = order as u16;
-        if heads[order] == head && is_group_of(mill, heads, first, second, head) {
+        if is_head_of(mill, heads, first, second, head) {
             queue.push_reserved(head);
         }
     }
