@@ -1,6 +1,5 @@
 -- Groups that decisions keep apart.
-use Rattle.std.proofs.Common.{◌≡◌, ℕ, ◌+◌, ◌*◌, ◌/◌, ◌%◌, ◌<◌, ◌≤◌, Bool, true, false, ◌&&◌, not, List, [], ◌∷◌, length, get_or, set, reverse, refl, ap, ap₂, subst, sym, inl, inr, ◌∙◌, arith, get_or-set_same, get_or-set_other, length-set}
-use Rattle.std.specs.List.{list_all}
+use Rattle.std.proofs.Common.{◌≡◌, ℕ, ◌+◌, ◌*◌, ◌/◌, ◌%◌, ◌<◌, Bool, true, false, ◌&&◌, not, List, length, get_or, set, reverse, refl, ap, ap₂, sym, inl, inr, ◌∙◌, arith, get_or-set_other, length-set}
 use Rattle.std.proofs.Math.Arith.{digits_div, digits_mod, digits_lt}
 use Rattle.std.proofs.lemmas.Bool.{cases_eq, both_ways}
 use Rattle.std.proofs.lemmas.List.Folds.{list_all_at}

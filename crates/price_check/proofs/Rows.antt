@@ -1,5 +1,5 @@
 -- Rows of bounds, from the last one up.
-use Rattle.std.proofs.Common.{◌≡◌, ℕ, ◌+◌, ◌-◌, ◌*◌, ◌/◌, ◌^◌, ◌<◌, ◌≤◌, ℤ, pos, ◌+ℤ◌, ◌≤ℤ◌, List, [], ◌∷◌, length, drop, get_or, set, ap, subst, sym, inl, inr, ◌⊎◌, ◌∙◌, arith, sum_by, get_or-set_same, get_or-set_other}
+use Rattle.std.proofs.Common.{◌≡◌, ℕ, ◌+◌, ◌-◌, ◌*◌, ◌/◌, ◌^◌, ◌<◌, ◌≤◌, ℤ, pos, ◌+ℤ◌, ◌≤ℤ◌, List, [], ◌∷◌, length, drop, get_or, set, ap, subst, sym, inl, inr, ◌∙◌, arith, sum_by, get_or-set_same, get_or-set_other}
 use Rattle.std.specs.Prelude.{unsigned_abs}
 use Rattle.std.proofs.lemmas.Int.{ints}
 use Rattle.std.proofs.lemmas.Bool.{cases_eq}
@@ -15,7 +15,6 @@ use Rattle.mill_model.specs.Columns.{IsInStock, size_of}
 use Rattle.mill_model.specs.Prices.{Prices}
 use Rattle.price_check.specs.Gains.{cost_of}
 use Rattle.price_check.specs.Groupings.{Groups, weight_at, gain_at}
-use Rattle.price_check.specs.Parts.{IsPart}
 use Rattle.price_check.specs.Bounds.{cell_at, IsBound, ArePaid, AreBoundsFrom, IsRow}
 
 -- one column more of a row

@@ -46,7 +46,12 @@ fn paid_by_old(mill: &Mill, quote: &Quote, load: usize) -> i128
 {
     let mut best = LEAST;
     for slab in 0..mill.yard().len() {
-        best = with_slab(best, load, mill.yard()[slab], cost_of_old(mill, quote, slab));
+        best = with_slab(
+            best,
+            load,
+            mill.yard()[slab],
+            cost_of_old(mill, quote, slab),
+        );
     }
     best
 }

@@ -82,7 +82,13 @@ pub(crate) fn search_pair(
     if both_at(leaf.plus, first, second) <= leaf.floor {
         return None;
     }
-    fill_queue(leaf.mill, leaf.groups.heads(), first, second, &mut space.queue);
+    fill_queue(
+        leaf.mill,
+        leaf.groups.heads(),
+        first,
+        second,
+        &mut space.queue,
+    );
     search_queue(leaf, first, second, space, orders)
 }
 

@@ -41,13 +41,7 @@ fn is_head_of(mill: &Mill, heads: &[u16], first: u16, second: u16, head: u16) ->
 }
 
 // Lists the heads of these groups.
-pub(crate) fn fill_queue(
-    mill: &Mill,
-    heads: &[u16],
-    first: u16,
-    second: u16,
-    queue: &mut Vec<u16>,
-)
+pub(crate) fn fill_queue(mill: &Mill, heads: &[u16], first: u16, second: u16, queue: &mut Vec<u16>)
     requires size { length heads.now ≡ length mill.now.orders }
     requires room { length mill.now.orders ≤ vec_capacity queue.old }
     ensures queue { IsQueue mill.now heads.now first second queue.new.items }

@@ -1,4 +1,4 @@
-use Rattle.std.proofs.Common.{◌≡◌, ℕ, ◌+◌, ◌*◌, ◌<◌, ◌≤◌, true, List, length, get_or, set, subst, sym, ap, ◌∙◌, arith, length-set}
+use Rattle.std.proofs.Common.{◌≡◌, ◌+◌, ◌*◌, ◌<◌, true, length, get_or, set, sym, ap, ◌∙◌, arith, length-set}
 use Rattle.mill_model.specs.Columns.{has}
 use Rattle.mill_model.specs.Groups.{head_of}
 use Rattle.price_check.proofs.Apartness.{mark_within, apart_more, heads_apart}

@@ -1,6 +1,5 @@
-use Rattle.std.proofs.Common.{◌≡◌, ℕ, ◌+◌, ◌^◌, ◌<◌, ◌≤◌, ℤ, ◌+ℤ◌, to_z, of_z, arith}
-use Rattle.std.specs.Prelude.{unsigned_abs}
-use Rattle.std.specs.Int.{w128, int_max}
+use Rattle.std.proofs.Common.{◌+◌, ◌<◌, ◌+ℤ◌, to_z, of_z, arith}
+use Rattle.std.specs.Int.{w128}
 use Rattle.price_check.specs.Bounds.{cell_at}
 use Rattle.price_check.proofs.Sums.{max_back, max_right, max_small}
 use Rattle.price_check.proofs.bounds.cell.Goals as goal

@@ -1,4 +1,4 @@
-use Rattle.std.proofs.Common.{◌≡◌, ℕ, ◌+◌, ◌^◌, ◌<◌, ◌≤◌, ℤ, pos, List, length, set, subst, sym, ◌∙◌, to_z, of_z, arith, length-set, get_or-set_other}
+use Rattle.std.proofs.Common.{◌≡◌, ℕ, ◌+◌, ◌^◌, ◌<◌, ◌≤◌, ℤ, pos, length, set, subst, sym, ◌∙◌, to_z, of_z, arith, length-set, get_or-set_other}
 use Rattle.std.specs.Prelude.{unsigned_abs}
 use Rattle.std.specs.Int.{w128}
 use Rattle.std.proofs.lemmas.Int.{ints}
@@ -14,7 +14,7 @@ loop-column-preserved c =
     let cells = c.loop-column.cells in
     let inside : c.args.start + c.loop-column.column < length c.loop-column.cells = omega (arith, c.loop-column-test.true, c.requires.size, c.loop-column.invariant.size) in
     let known : (bound : ℕ) → ((k : ℕ) → c.args.start + c.args.width ≤ k → k < c.args.start + c.args.width + c.args.width → unsigned_abs (cell_at c.args.cells.now k) ≤ bound)
-        → (k : ℕ) → c.args.start + c.args.width + c.loop-column.column ≤ k → k < c.args.start + c.args.width + c.args.width → unsigned_abs (cell_at c.loop-column.cells k) ≤ bound =
+    → (k : ℕ) → c.args.start + c.args.width + c.loop-column.column ≤ k → k < c.args.start + c.args.width + c.args.width → unsigned_abs (cell_at c.loop-column.cells k) ≤ bound =
     (λ bound is k low high. let above : c.args.start + c.args.width ≤ k = omega (arith, low) in subst (λ (z : ℤ). unsigned_abs z ≤ bound) (sym (c.loop-column.invariant.kept k above)) (is k above high)) in
     let little : unsigned_abs c.cell.result ≤ 2 ^ 102 + 2 ^ 84 = c.cell.ensures.small (2 ^ 102) (known (2 ^ 102) c.requires.small) in
     let back : c.cell.result ≡ to_z w128 (of_z w128 c.cell.result) = omega (arith, ints, little) in

@@ -1,4 +1,4 @@
-use Rattle.std.proofs.Common.{ℕ, ◌+◌, ◌<◌, ◌≤◌, ◌^◌, pos, ◌+ℤ◌}
+use Rattle.std.proofs.Common.{ℕ, ◌<◌, ◌≤◌, ◌^◌, pos, ◌+ℤ◌}
 use Rattle.std.specs.Prelude.{◌≤ℤ◌, unsigned_abs}
 use Rattle.mill_model.specs.declared.kind.Kind.TheVariants.{Old}
 use Rattle.mill_model.specs.Columns.{size_of}

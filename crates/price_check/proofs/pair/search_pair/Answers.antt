@@ -1,9 +1,9 @@
-use Rattle.std.proofs.Common.{◌≡◌, ℕ, ◌+◌, ◌*◌, ◌^◌, ◌≤◌, ◌≤ℤ◌, List, length, subst, sym, arith}
+use Rattle.std.proofs.Common.{ℕ, ◌+◌, ◌*◌, ◌^◌, ◌≤◌, ◌≤ℤ◌, List, length, subst, sym, arith}
 use Rattle.std.specs.Prelude.{unsigned_abs}
 use Rattle.price_check.proofs.Sums.{le_back}
 use Rattle.price_check.proofs.Colours.{both_small}
 use Rattle.price_check.specs.Bounds.{both_at}
-use Rattle.price_check.specs.Search.{IsClearOf, IsQueue}
+use Rattle.price_check.specs.Search.{IsQueue}
 use Rattle.price_check.proofs.Options.{none_weaker}
 use Rattle.price_check.proofs.Queues.{clear_of_queue, clear_of_plus}
 use Rattle.price_check.proofs.pair.search_pair.Goals as goal

@@ -1,4 +1,4 @@
-use Rattle.std.proofs.Common.{◌≡◌, ℕ, ◌+◌, ◌<◌, ◌≤◌, List, [], length, refl, subst, sym, ap, ◌∙◌, arith}
+use Rattle.std.proofs.Common.{◌≡◌, ℕ, List, [], length, subst, ap, arith}
 use Rattle.std.specs.Option.{IfNone}
 use Rattle.price_check.specs.Search.{IsClear}
 use Rattle.price_check.proofs.Queues.{queue_length}

@@ -1,10 +1,8 @@
 use Rattle.std.proofs.Common.{◌≡◌, ℕ, ◌+◌, ◌-◌, ◌*◌, ◌^◌, ◌<◌, ◌≤◌, ℤ, pos, ◌+ℤ◌, ◌≤ℤ◌, List, length, get_or, set, refl, subst, sym, ap, ◌∙◌, to_z, of_z, arith}
 use Rattle.std.specs.Prelude.{unsigned_abs}
 use Rattle.std.specs.Int.{w128}
-use Rattle.std.proofs.lemmas.Int.{ints}
 use Rattle.mill_model.specs.declared.order.Order.{Order}
 use Rattle.mill_model.specs.Columns.{order_at}
-use Rattle.price_check.specs.Groupings.{gain_at}
 use Rattle.price_check.specs.Bounds.{cell_at, ArePlusFrom}
 use Rattle.price_check.proofs.Sums.{back_small, add_back, max_left, max_right, positive_small}
 use Rattle.price_check.proofs.Colours.{plus_none, plus_more, colour_within, all_none}

@@ -1,7 +1,6 @@
 use Rattle.std.proofs.Common.{rules, ℕ, ◌≡◌, ◌+◌, ◌*◌, ◌^◌, ◌<◌, ◌≤◌, arith, inl, inr, ap, sym, subst, ◌∙◌, List, ◌∷◌, [], ◌++◌, length, get_or, drop, to_z, of_z}
 use Rattle.std.specs.Prelude.{ℤ, pos, ◌+ℤ◌, ◌≤ℤ◌, unsigned_abs}
 use Rattle.std.specs.Int.{w128}
-use Rattle.std.proofs.lemmas.Int.{ints}
 use Rattle.std.proofs.lemmas.Bool.{OnTrue_at}
 use Rattle.mill_model.specs.Columns.{Rises}
 use Rattle.price_check.specs.Groupings.{weight_at, gain_at}
@@ -10,7 +9,7 @@ use Rattle.price_check.specs.Apartness.{IsApart}
 use Rattle.price_check.proofs.Options.{none_weaker, none_at}
 use Rattle.price_check.proofs.Sums.{back_small}
 use Rattle.price_check.proofs.Queues.{Rises-length}
-use Rattle.price_check.proofs.Walks.{clear_pruned, clear_heavy, clear_apart, clear_both, clear_end, taken_skip, taken_push, taken_length, popped}
+use Rattle.price_check.proofs.Walks.{clear_pruned, clear_heavy, clear_apart, clear_both, taken_skip, taken_push, taken_length, popped}
 use Rattle.price_check.proofs.walk.+walk.Goals as goal
 
 pub returns-then-cannot_gain-clause-none : goal.returns-then-cannot_gain-clause-none

@@ -1,4 +1,4 @@
-use Rattle.std.proofs.Common.{◌≡◌, ℕ, ◌+◌, ◌*◌, ◌<◌, ◌≤◌, length, get_or, subst, sym, ap, arith}
+use Rattle.std.proofs.Common.{◌≡◌, ◌<◌, length, subst, sym, ap, arith}
 use Rattle.price_check.proofs.Parts.{rising_at}
 use Rattle.price_check.proofs.Apartness.{mark_within}
 use Rattle.price_check.proofs.walk.is_apart.Goals as goal
