@@ -57,7 +57,7 @@ module _ (m : Mill) (p : Prices) (g : Groups) where
   pub bound_rounded : (rest : List ℕ) (step weight : ℕ) (bound : ℤ) → IsBound m p g rest (weight / step * step) bound → IsBound m p g rest weight bound
   bound_rounded rest step weight bound is kind more stock part fits = is kind more stock part (omega (arith, div-mul-le_self weight step, fits))
 
-  bound_end : (room weight : ℕ) (paid : List ℤ) → ArePaid m p room paid → IsBound m p g [] weight (cell_at paid weight)
+  pub bound_end : (room weight : ℕ) (paid : List ℤ) → ArePaid m p room paid → IsBound m p g [] weight (cell_at paid weight)
   bound_end room weight paid are kind more stock part fits =
       subst (λ (zs : List ℕ). total_by (gain_at g) zs ≤ℤ (cost_of m p kind +ℤ cell_at paid weight)) (sym part) (are.bound kind weight stock (omega (arith, fits)))
 

@@ -28,6 +28,7 @@ pub record IsHunt (h : Hunt) : Type 0 where
   pub groups : AreGroups h.mill.now h.trail.now.decisions h.quote.now h.groups.now
   pub apart : AreApart h.trail.now.decisions (length h.mill.now.orders) h.apart.now
   pub queue : IsQueue h.mill.now h.groups.now.heads h.first h.second h.queue.now
+  pub paid : ArePaid h.mill.now h.quote.now h.room h.paid.now
   pub bounds : AreBounds h.mill.now h.quote.now h.groups.now h.queue.now h.room h.step h.width h.cells.now
   pub most_size : (kind : Kind) → IsInStock h.mill.now kind → size_of h.mill.now kind ≤ h.room
   pub narrow : h.room ≤ 10000

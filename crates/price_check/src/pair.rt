@@ -122,6 +122,7 @@ fn search_queue(
         first,
         second,
         queue: &space.queue,
+        paid: leaf.paid,
         step,
         width,
         cells: &space.cells,

@@ -14,22 +14,30 @@ fn is_of(mill: &Mill, first: u16, second: u16, order: usize) -> bool
     colour == first || colour == second
 }
 
-// Whether each order of a group is: its head first, as most groups fail there.
+// Whether each order of a group is.
 fn is_group_of(mill: &Mill, heads: &[u16], first: u16, second: u16, head: u16) -> bool
-    requires size { length heads.now ≡ length mill.now.orders }
-    requires head { head < length heads.now }
-    requires own { head_of heads.now head ≡ head }
+    requires { length heads.now ≡ length mill.now.orders }
     ensures { IsTrue result ↔ IsGroupOf mill.now heads.now first second head }
 {
-    if !is_of(mill, first, second, usize::from(head)) {
-        return false;
-    }
     for order in 0..heads.len() {
         if heads[order] == head && !is_of(mill, first, second, order) {
             return false;
         }
     }
     true
+}
+
+// Whether an order is the head of such a group.
+fn is_head_of(mill: &Mill, heads: &[u16], first: u16, second: u16, head: u16) -> bool
+    requires size { length heads.now ≡ length mill.now.orders }
+    requires head { head < length heads.now }
+    ensures { IsTrue result ↔ ((head_of heads.now head ≡ head) × IsGroupOf mill.now heads.now first second head) }
+{
+    let order = usize::from(head);
+    if heads[order] != head || !is_of(mill, first, second, order) {
+        return false;
+    }
+    is_group_of(mill, heads, first, second, head)
 }
 
 // Lists the heads of these groups.
@@ -44,7 +52,7 @@ pub(crate) fn fill_queue(mill: &Mill, heads: &[u16], first: u16, second: u16, qu
     prove!(few <= 250);
     for order in 0..heads.len() {
         let head = order as u16;
-        if heads[order] == head && is_group_of(mill, heads, first, second, head) {
+        if is_head_of(mill, heads, first, second, head) {
             queue.push_reserved(head);
         }
     }

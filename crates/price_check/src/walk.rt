@@ -30,6 +30,8 @@ pub(crate) struct Hunt<'a> {
     pub second: u16,
     /// The heads of the groups of the two colours.
     pub queue: &'a [u16],
+    /// For each load, at least what the cheapest slab that holds it pays.
+    pub paid: &'a [i128],
     /// A row of bounds for each place of the queue, and one for its end: at least what groups from there on gain beyond
     /// the cost of a slab. A row's columns stand for the multiples of a step of the load.
     pub cells: &'a [i128],
@@ -131,6 +133,9 @@ fn most(hunt: &Hunt<'_>, at: usize, weight: u32) -> i128
     ensures bound { IsBound hunt.now.mill.now hunt.now.quote.now hunt.now.groups.now (drop at hunt.now.queue.now) weight result }
     ensures small { unsigned_abs result ≤ 2 ^ 102 }
 {
+    if at == hunt.queue.len() {
+        return hunt.paid[weight as usize];
+    }
     let column = weight as usize / hunt.step;
     hunt.cells[at * hunt.width + column]
 }
