@@ -1,5 +1,5 @@
 -- The heads that are marked, gathered from the last to the first.
-use Rattle.std.proofs.Common.{◌≡◌, inl, inr, ℕ, ◌+◌, ◌<◌, ◌≤◌, Bool, List, [], ◌∷◌, subst, sym, ap, arith, refl}
+use Rattle.std.proofs.Common.{inl, inr, ℕ, ◌+◌, ◌<◌, Bool, List, [], ◌∷◌, subst, ap, arith, refl}
 use Rattle.std.specs.List.{AllByRecursion}
 use Rattle.std.proofs.lemmas.Bool.{cases_eq}
 use Rattle.mill_model.specs.Columns.{Rises}

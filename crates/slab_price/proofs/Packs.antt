@@ -1,12 +1,12 @@
 -- Orders that may lie on one slab, as columns.
-use Rattle.std.proofs.Common.{◌≡◌, inl, inr, ℕ, ◌<◌, ◌≤◌, pos, ◌≤ℤ◌, ℤ, true, List, length, sym, subst, ◌∙◌, ap, arith}
+use Rattle.std.proofs.Common.{◌≡◌, inl, inr, ℕ, ◌<◌, ◌≤◌, pos, ◌≤ℤ◌, ℤ, true, List, length, sym, subst, ◌∙◌, arith}
 use Rattle.std.specs.Prelude.{◌-ℤ◌, ◌<ℤ◌}
 use Rattle.std.proofs.lemmas.Int.{ints}
 use Rattle.std.proofs.lemmas.List.Elements.{All-contains}
 use Rattle.mill_model.specs.declared.kind.Kind.{Kind}
 use Rattle.mill_model.specs.declared.kind.Kind.TheVariants.{New, Old}
 use Rattle.mill_model.specs.Mill.{Mill}
-use Rattle.mill_model.specs.Columns.{IsInStock, IsLegalColumn, load, size_of}
+use Rattle.mill_model.specs.Columns.{IsInStock, IsLegalColumn, size_of}
 use Rattle.mill_model.specs.Prices.{Prices}
 use Rattle.mill_model.specs.Decisions.{Decision, column_agrees}
 use Rattle.mill_model.proofs.Sizes.{column_agrees_any_size}

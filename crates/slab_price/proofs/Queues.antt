@@ -1,10 +1,10 @@
 -- The queue of two colours.
-use Rattle.std.proofs.Common.{◌≡◌, inl, inr, ℕ, zero, suc, ◌+◌, ◌*◌, ◌^◌, ◌<◌, ◌≤◌, ℤ, Bool, true, false, cond, eqb, List, [], ◌∷◌, length, get_or, refl, sym, subst, ap, ◌∙◌, arith}
-use Rattle.std.specs.List.{All, AllByRecursion}
-use Rattle.std.proofs.lemmas.Bool.{cond_both, eqb-true, or_cases, or_left, or_right, eq-eqb}
+use Rattle.std.proofs.Common.{◌≡◌, ℕ, zero, suc, ◌+◌, ◌<◌, ◌≤◌, Bool, true, eqb, List, [], ◌∷◌, length, get_or, refl, sym, subst, ap, ◌∙◌, arith}
+use Rattle.std.specs.List.{AllByRecursion}
+use Rattle.std.proofs.lemmas.Bool.{cond_both, eqb-true, or_left, or_right, eq-eqb}
 use Rattle.std.proofs.lemmas.List.{get_or_default}
 use Rattle.mill_model.specs.Mill.{Mill}
-use Rattle.mill_model.specs.Columns.{Column, IsLegalColumn, Rises, colours_of, has}
+use Rattle.mill_model.specs.Columns.{Column, Rises, has}
 use Rattle.mill_model.specs.Groups.{AreHeads, head_of, heads_in, members}
 use Rattle.mill_model.specs.Prices.{Prices}
 use Rattle.mill_model.specs.Decisions.{Decision, column_agrees}

@@ -1,5 +1,5 @@
 -- The steps of the walk over the groups of a queue.
-use Rattle.std.proofs.Common.{◌≡◌, inl, inr, ℕ, ◌+◌, ◌-◌, ◌*◌, ◌^◌, ◌<◌, ◌≤◌, pos, ◌+ℤ◌, ◌≤ℤ◌, ℤ, true, List, [], ◌∷◌, ◌++◌, length, get_or, take, refl, sym, subst, ap, ◌∙◌, arith, append_assoc, append-nil}
+use Rattle.std.proofs.Common.{◌≡◌, inl, inr, ℕ, ◌+◌, ◌-◌, ◌*◌, ◌^◌, ◌<◌, ◌≤◌, pos, ◌+ℤ◌, ◌≤ℤ◌, ℤ, List, [], ◌∷◌, ◌++◌, length, get_or, take, refl, sym, subst, ap, ◌∙◌, arith, append_assoc, append-nil}
 use Rattle.std.specs.Prelude.{◌-ℤ◌, unsigned_abs}
 use Rattle.std.specs.List.{sum_by}
 use Rattle.std.proofs.lemmas.Int.{ints}
@@ -9,10 +9,10 @@ use Rattle.std.proofs.Math.Seq.{take-append_seam}
 use Rattle.mill_model.specs.declared.kind.Kind.{Kind}
 use Rattle.mill_model.specs.Mill.{Mill}
 use Rattle.mill_model.specs.SignedSums.{total_by}
-use Rattle.mill_model.specs.Columns.{IsInStock, IsLegalColumn, Rises, load, size_of}
+use Rattle.mill_model.specs.Columns.{IsLegalColumn, Rises, load}
 use Rattle.mill_model.specs.Groups.{members}
 use Rattle.mill_model.specs.Prices.{Prices}
-use Rattle.mill_model.specs.Decisions.{Decision, column_agrees}
+use Rattle.mill_model.specs.Decisions.{Decision}
 use Rattle.mill_model.proofs.Groups.{members_rise}
 use Rattle.mill_model.proofs.Signed.{total_by-append}
 use Rattle.slab_price.specs.Bounds.{AreEnds, AreQueued, IsMost}

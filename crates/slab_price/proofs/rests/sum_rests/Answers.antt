@@ -1,11 +1,11 @@
-use Rattle.std.proofs.Common.{refl, ◌≡◌, ℕ, ◌+◌, ◌*◌, ◌^◌, ◌<◌, ◌≤◌, pos, ◌+ℤ◌, ◌≤ℤ◌, ℤ, List, [], ◌∷◌, ◌++◌, length, get_or, ap, sym, subst, ◌∙◌, arith, to_z, of_z}
+use Rattle.std.proofs.Common.{◌≡◌, ℕ, ◌+◌, ◌*◌, ◌^◌, ◌≤◌, pos, ◌+ℤ◌, ◌≤ℤ◌, ℤ, List, [], ◌∷◌, ◌++◌, get_or, ap, sym, subst, ◌∙◌, arith, to_z, of_z}
 use Rattle.std.specs.Prelude.{unsigned_abs}
 use Rattle.std.specs.Int.{w128}
 use Rattle.std.proofs.lemmas.Int.{ints}
 use Rattle.std.proofs.Math.Seq.{get_or-append_seam}
 use Rattle.slab_price.specs.Bounds.{AreRests}
 use Rattle.slab_price.specs.Groupings.{gain_at}
-use Rattle.slab_price.proofs.Numbers.{sum_back, max_small}
+use Rattle.slab_price.proofs.Numbers.{max_small}
 use Rattle.slab_price.proofs.Sums.{rests_more}
 use Rattle.slab_price.proofs.rests.sum_rests.Goals as goal
 

@@ -1,8 +1,8 @@
-use Rattle.std.proofs.Common.{refl, ◌≡◌, ℕ, ◌+◌, ◌*◌, ◌^◌, ◌<◌, ◌≤◌, pos, ◌+ℤ◌, ◌≤ℤ◌, ℤ, List, length, get_or, arith, to_z, of_z}
+use Rattle.std.proofs.Common.{ℕ, ◌+◌, ◌*◌, ◌^◌, ◌<◌, ◌≤◌, pos, ◌+ℤ◌, ℤ, List, length, get_or, arith, to_z, of_z}
 use Rattle.std.specs.Prelude.{unsigned_abs}
 use Rattle.std.specs.Int.{w128}
 use Rattle.std.proofs.lemmas.Int.{ints}
-use Rattle.slab_price.proofs.Numbers.{back, sum_back, max_small}
+use Rattle.slab_price.proofs.Numbers.{max_small}
 use Rattle.slab_price.proofs.table.entry.Goals as goal
 
 -- an entry of a table is small

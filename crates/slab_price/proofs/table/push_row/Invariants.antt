@@ -1,4 +1,4 @@
-use Rattle.std.proofs.Common.{◌≡◌, ◌+◌, ◌*◌, ◌≤◌, length}
+use Rattle.std.proofs.Common.{◌≡◌, ◌+◌, ◌*◌, length}
 use Rattle.std.specs.Vec.{vec_capacity}
 use Rattle.slab_price.specs.Bounds.{IsTable}
 use Rattle.slab_price.proofs.table.push_row.Given as goal

@@ -1,6 +1,5 @@
-use Rattle.std.proofs.Common.{rules, ◌≡◌, ◌^◌, ◌<◌, ◌≤◌, pos, ◌≤ℤ◌, ℤ, true, length, arith, ◌∙◌, sym, to_z, of_z}
-use Rattle.std.specs.Prelude.{◌-ℤ◌, ◌<ℤ◌, unsigned_abs}
-use Rattle.std.specs.Int.{w128}
+use Rattle.std.proofs.Common.{◌≡◌, pos, ◌≤ℤ◌, true, length, arith, ◌∙◌, sym}
+use Rattle.std.specs.Prelude.{◌-ℤ◌, ◌<ℤ◌}
 use Rattle.std.proofs.lemmas.Int.{ints}
 use Rattle.mill_model.specs.Decisions.{column_agrees}
 use Rattle.slab_price.specs.Gains.{cost_of}

@@ -1,4 +1,4 @@
-use Rattle.std.proofs.Common.{ℕ, ◌<◌, ◌≤◌, ◌≤ℤ◌, length}
+use Rattle.std.proofs.Common.{ℕ, ◌<◌, ◌≤◌, length}
 use Rattle.slab_price.specs.Searches.{IsBest, IsBestOfPair, HasQueueRoom, HasPickRoom}
 use Rattle.slab_price.proofs.question.Question.price.Given as goal
 
