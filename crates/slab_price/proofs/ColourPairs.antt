@@ -10,8 +10,8 @@ use Rattle.mill_model.specs.Groups.{heads_in, members}
 use Rattle.mill_model.specs.Prices.{Prices}
 use Rattle.mill_model.specs.Decisions.{Decision, column_agrees}
 use Rattle.mill_model.proofs.Groups.{heads_in_rise, whole_groups}
-use Rattle.slab_price.specs.declared.plan.Plan.{Plan}
-use Rattle.slab_price.specs.Bounds.{IsOfColours, IsPlan, plus_of}
+use Rattle.slab_price.specs.declared.frame.Frame.{Frame}
+use Rattle.slab_price.specs.Bounds.{IsOfColours, IsFrame, plus_of}
 use Rattle.slab_price.specs.Excess.{IsGreatest}
 use Rattle.mill_model.specs.Gains.{gains_of, cost_of}
 use Rattle.mill_model.specs.Groupings.{Groups, AreGroups, gain_at}
@@ -37,13 +37,13 @@ module _ (m : Mill) (decisions : List Decision) (p : Prices) (g : Groups) (group
       on c.kind legal agrees
 
   -- the colours gain too little
-  pub hopeless_pair : (plan : Plan) (most : ℤ) → plan.groups ≡ g → IsPlan m decisions p plan → first ≤ m.colours → second ≤ m.colours → (plus_of plan.plus.items first second +ℤ get_or plan.ends.items 0 (pos 0)) ≤ℤ most
+  pub hopeless_pair : (frame : Frame) (most : ℤ) → frame.groups ≡ g → IsFrame m decisions p frame → first ≤ m.colours → second ≤ m.colours → (plus_of frame.plus.items first second +ℤ get_or frame.ends.items 0 (pos 0)) ≤ℤ most
       → IsBestOfPair m decisions p first second most
-  hopeless_pair plan most same are i j low c legal agrees colours =
+  hopeless_pair frame most same are i j low c legal agrees colours =
       let gains : gains_of m p c.orders ≡ total_by (gain_at g) (heads_in g.heads c.orders) = ap (gains_of m p) (whole c legal agrees) ∙ groups.gains (heads_in g.heads c.orders) (heads_rise c legal) in
-      let plus : total_by (gain_at g) (heads_in g.heads c.orders) ≤ℤ plus_of plan.plus.items first second =
-      subst (λ (h : Groups). total_by (gain_at h) (heads_in g.heads c.orders) ≤ℤ plus_of plan.plus.items first second) same (are.plus.most first second (heads_in g.heads c.orders) i j (heads_rise c legal) (heads_have_colours m g.heads first second c.orders colours)) in
-      let least : (pos 0 -ℤ cost_of m p c.kind) ≤ℤ get_or plan.ends.items 0 (pos 0) = are.ends.least 0 c.kind legal.fits.kind (omega arith) in
+      let plus : total_by (gain_at g) (heads_in g.heads c.orders) ≤ℤ plus_of frame.plus.items first second =
+      subst (λ (h : Groups). total_by (gain_at h) (heads_in g.heads c.orders) ≤ℤ plus_of frame.plus.items first second) same (are.plus.most first second (heads_in g.heads c.orders) i j (heads_rise c legal) (heads_have_colours m g.heads first second c.orders colours)) in
+      let least : (pos 0 -ℤ cost_of m p c.kind) ≤ℤ get_or frame.ends.items 0 (pos 0) = are.ends.least 0 c.kind legal.fits.kind (omega arith) in
       chain _ _ _ _ _ _ _ (excess_split m p c legal.fits.weight) gains plus least low
     where
       chain : (e gains total plus cost end most : ℤ) → e ≡ gains -ℤ cost → gains ≡ total → total ≤ℤ plus → (pos 0 -ℤ cost) ≤ℤ end → (plus +ℤ end) ≤ℤ most → e ≤ℤ most

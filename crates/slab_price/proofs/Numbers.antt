@@ -8,9 +8,6 @@ use Rattle.std.proofs.lemmas.Int.{ints, int_max_is}
 use Rattle.std.proofs.lemmas.Bool.{cases_eq}
 use Rattle.std.proofs.Math.Seq.{get_or-append_seam}
 
-pub back : (x : ℤ) → unsigned_abs x ≤ 2 ^ 120 → to_z w128 (of_z w128 x) ≡ x
-back x small = omega (arith, ints)
-
 pub sum_back : (x y a b : ℤ) → x ≡ a → y ≡ b → unsigned_abs a ≤ 2 ^ 118 → unsigned_abs b ≤ 2 ^ 118 → to_z w128 (of_z w128 (to_z w128 (of_z w128 x) +ℤ to_z w128 (of_z w128 y))) ≡ a +ℤ b
 sum_back x y a b e f g h = rw (e, f) (omega (arith, ints))
 

@@ -1,6 +1,6 @@
 -- What groups gain at most, summed up.
 use Rattle.std.proofs.Math.ListN.{get_or-append}
-use Rattle.std.proofs.Common.{◌≡◌, inl, inr, ◌⊎◌, ℕ, ◌+◌, ◌-◌, ◌*◌, ◌^◌, ◌<◌, ◌≤◌, pos, ◌+ℤ◌, ◌≤ℤ◌, ℤ, eqb, List, [], ◌∷◌, ◌++◌, length, get_or, set, refl, sym, subst, ap, ◌∙◌, arith, get_or-set_same, get_or-set_other, length-set}
+use Rattle.std.proofs.Common.{◌≡◌, inl, inr, ◌⊎◌, ℕ, ◌+◌, ◌-◌, ◌*◌, ◌^◌, ◌<◌, ◌≤◌, pos, ◌+ℤ◌, ◌≤ℤ◌, ℤ, eqb, List, [], ◌∷◌, ◌++◌, length, get_or, set, sym, subst, ap, ◌∙◌, arith, get_or-set_same, get_or-set_other, length-set}
 use Rattle.std.specs.Prelude.{unsigned_abs}
 use Rattle.std.proofs.lemmas.Int.{ints}
 use Rattle.std.proofs.lemmas.Bool.{cases_eq, cases_lt, cond_both, eq-eqb, ne_eqb}
@@ -88,15 +88,6 @@ plus_more m g at plus more lt known covers sign little a = record { size = omega
     ]
 
 -- ---- along the queue
-
-pub rests_none : (g : Groups) (queue : List ℕ) → AreRests g queue 0 (pos 0 ∷ [])
-rests_none g queue = record { size = refl; most = most; small = λ left h. let e : left ≡ 0 = omega arith in rw e (omega arith) }
-  where
-    most : (left : ℕ) (more : List ℕ) → left ≤ 0 → IsPart more (left_of queue left) → total_by (gain_at g) more ≤ℤ get_or (pos 0 ∷ []) left (pos 0)
-    most left more h part =
-        let e : left ≡ 0 = omega arith in
-        let nothing : more ≡ [] = subst (λ (k : ℕ). IsPart more (left_of queue k)) e part in
-        rw (e, nothing) (omega (arith, ints))
 
 -- one group more
 pub rests_more : (g : Groups) (queue : List ℕ) (done : ℕ) (rest : List ℤ) (sum more : ℤ) → get_or rest done (pos 0) ≡ sum → gain_at g (get_or queue done 0) ≤ℤ more → pos 0 ≤ℤ more → unsigned_abs more ≤ 2 ^ 84

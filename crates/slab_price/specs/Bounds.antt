@@ -8,7 +8,7 @@ use Rattle.mill_model.specs.Columns.{IsInStock, Rises, colours_of, order_at, siz
 use Rattle.mill_model.specs.Groups.{head_of, members}
 use Rattle.mill_model.specs.Prices.{Prices}
 use Rattle.mill_model.specs.Decisions.{Decision}
-use Rattle.slab_price.specs.declared.plan.Plan.{Plan}
+use Rattle.slab_price.specs.declared.frame.Frame.{Frame}
 use Rattle.mill_model.specs.Gains.{cost_of}
 use Rattle.mill_model.specs.Groupings.{Groups, AreGroups, weight_at, gain_at}
 use Rattle.slab_price.specs.Parts.{IsPart, left_of}
@@ -22,7 +22,7 @@ HaveColours m first second orders = AllByRecursion (HasColour m first second) or
 
 -- ---- the ends
 
--- no slab that holds a load earns more than the entry at the load, as all slabs cost something or nothing
+-- for each load, no less than what a slab that holds it costs, with its sign turned
 pub record AreEnds (m : Mill) (p : Prices) (ends : List ℤ) : Type 0 where
   pub room : (kind : Kind) → IsInStock m kind → size_of m kind < length ends
   pub some : 0 < length ends
@@ -42,11 +42,11 @@ pub record ArePlus (m : Mill) (g : Groups) (low : ℕ) (plus : List ℤ) : Type 
   pub most : (first second : ℕ) (taken : List ℕ) → first ≤ m.colours → second ≤ m.colours → Rises low (length m.orders) taken → HaveColours m first second taken → total_by (gain_at g) taken ≤ℤ plus_of plus first second
   pub small : (colour : ℕ) → colour ≤ m.colours → unsigned_abs (slice_index_or plus colour (pos 0)) ≤ (length m.orders - low) * 2 ^ 84
 
--- what stands through a call: the groups, and bounds on slabs and on colours
-pub record IsPlan (m : Mill) (decisions : List Decision) (p : Prices) (plan : Plan) : Type 0 where
-  pub groups : AreGroups m decisions p plan.groups
-  pub ends : AreEnds m p plan.ends.items
-  pub plus : ArePlus m plan.groups 0 plan.plus.items
+-- what stands through a call: the groups, what slabs cost at least, and what colours gain at most
+pub record IsFrame (m : Mill) (decisions : List Decision) (p : Prices) (frame : Frame) : Type 0 where
+  pub groups : AreGroups m decisions p frame.groups
+  pub ends : AreEnds m p frame.ends.items
+  pub plus : ArePlus m frame.groups 0 frame.plus.items
 
 -- ---- the queue
 

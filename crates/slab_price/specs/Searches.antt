@@ -10,10 +10,10 @@ use Rattle.mill_model.specs.Prices.{Prices}
 use Rattle.mill_model.specs.Decisions.{Decision, column_agrees}
 use Rattle.slab_decide.specs.Decided.{Decisions}
 use Rattle.slab_price.specs.declared.best.Best.{Best}
-use Rattle.slab_price.specs.declared.plan.Plan.{Plan}
+use Rattle.slab_price.specs.declared.frame.Frame.{Frame}
 use Rattle.slab_price.specs.declared.pairs.Picks.{Picks}
 use Rattle.slab_price.specs.declared.queue.Queue.{Queue}
-use Rattle.slab_price.specs.Bounds.{HaveColours, IsPlan, AreQueued, AreRests, IsTable}
+use Rattle.slab_price.specs.Bounds.{HaveColours, IsFrame, AreQueued, AreRests, IsTable}
 use Rattle.slab_price.specs.Excess.{excess, BelongTogether, IsFound}
 use Rattle.slab_price.specs.Found.{Found}
 use Rattle.mill_model.specs.Gains.{gains_of}
@@ -36,17 +36,17 @@ pub record IsPack (m : Mill) (p : Prices) (orders : List ℕ) (weight : ℕ) (ga
   pub small : unsigned_abs gain ≤ 2 ^ 92
 
 -- the queue of a walk, with bounds
-pub record IsQueue (m : Mill) (plan : Plan) (queue : Queue) : Type 0 where
-  pub queued : AreQueued m plan.groups.heads (left_of queue.heads.items (length queue.heads.items))
-  pub rests : AreRests plan.groups queue.heads.items (length queue.heads.items) queue.rest.items
-  pub table : IsTable plan.groups queue.heads.items plan.ends.items queue.table.items
+pub record IsQueue (m : Mill) (frame : Frame) (queue : Queue) : Type 0 where
+  pub queued : AreQueued m frame.groups.heads (left_of queue.heads.items (length queue.heads.items))
+  pub rests : AreRests frame.groups queue.heads.items (length queue.heads.items) queue.rest.items
+  pub table : IsTable frame.groups queue.heads.items frame.ends.items queue.table.items
   pub narrow : length queue.table.items ≤ 2 ^ 24
 
 -- what a walk goes by
-pub record IsHunt (m : Mill) (listed : List ℕ) (decisions : Decisions) (p : Prices) (plan : Plan) (queue : Queue) : Type 0 where
+pub record IsHunt (m : Mill) (listed : List ℕ) (decisions : Decisions) (p : Prices) (frame : Frame) (queue : Queue) : Type 0 where
   pub asked : IsQuestion m listed decisions p
-  pub planned : IsPlan m decisions.list p plan
-  pub queued : IsQueue m plan queue
+  pub framed : IsFrame m decisions.list p frame
+  pub queued : IsQueue m frame queue
 
 -- heads taken from the queue, where so many are left, with the weight and the gain of their groups
 pub record AreChosen (g : Groups) (queue : List ℕ) (left : ℕ) (chosen : List ℕ) (weight : ℕ) (gain : ℤ) : Type 0 where

@@ -10,7 +10,7 @@ use crate::question::Question;
 use mill_model::Kind;
 use std::alloc::{AllocError, Global};
 
-/// Less than any slab earns.
+/// Less than the cost of any slab, with its sign turned.
 const LEAST: i128 = -1_237_940_039_285_380_274_899_124_224;
 
 /// The greatest of some sizes, and no less than a first one.
@@ -37,7 +37,7 @@ impl Question<'_> {
         greatest(self.mill.yard(), greatest(self.mill.sizes(), 0))
     }
 
-    /// At least what each new slab earns that holds the load, as it costs something or nothing.
+    /// What a new slab that holds the load costs at least, with its sign turned.
     fn end_of_new(&self, load: u32) -> i128
         requires question { IsQuestion self.now.mill.now self.now.table.now self.now.decisions.now self.now.prices.now }
         ensures most { (size : ℕ) → IsInStock self.now.mill.now (Kind.New size) → load ≤ size → (pos 0 -ℤ cost_of self.now.mill.now self.now.prices.now (Kind.New size)) ≤ℤ result }
@@ -49,7 +49,7 @@ impl Question<'_> {
         }
     }
 
-    /// The same of a surplus slab, or what was found before where that is more.
+    /// The cost of a surplus slab, with its sign turned, where it holds the load and costs less than what was found before.
     fn end_of_old(&self, load: u32, slab: u16, before: i128) -> i128
         requires question { IsQuestion self.now.mill.now self.now.table.now self.now.decisions.now self.now.prices.now }
         requires stock { slab < length self.now.mill.now.yard }
@@ -64,7 +64,7 @@ impl Question<'_> {
         before.max(-self.cost(Kind::Old(slab)))
     }
 
-    /// The same of each slab.
+    /// What a slab that holds the load costs at least, with its sign turned.
     fn end(&self, load: u32) -> i128
         requires question { IsQuestion self.now.mill.now self.now.table.now self.now.decisions.now self.now.prices.now }
         ensures most { (kind : Kind) → IsInStock self.now.mill.now kind → load ≤ size_of self.now.mill.now kind → (pos 0 -ℤ cost_of self.now.mill.now self.now.prices.now kind) ≤ℤ result }
@@ -78,7 +78,7 @@ impl Question<'_> {
         end
     }
 
-    /// The same for each load that some slab holds.
+    /// For each load up to the greatest size what a slab that holds it costs at least, with its sign turned.
     pub(crate) fn ends(&self, alloc: Global) -> Result<Vec<i128>, AllocError>
         requires question { IsQuestion self.now.mill.now self.now.table.now self.now.decisions.now self.now.prices.now }
         ensures { IfOk result (λ ends. AreEnds self.now.mill.now self.now.prices.now ends.items) }

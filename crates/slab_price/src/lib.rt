@@ -4,11 +4,11 @@
 mod best;
 mod ends;
 mod found;
+mod frame;
 mod groups;
 mod marks;
 mod offer;
 mod pairs;
-mod plan;
 mod plus;
 mod pricing;
 mod question;

@@ -1,11 +1,11 @@
 ghost use Rattle.std.specs.Prelude.{◌≡◌, ◌≤◌, ℕ, pos, ◌≤ℤ◌, IfOk, length, []};
 ghost use Rattle.std.specs.Bool.{OnTrue};
-ghost use Rattle.slab_price.specs.Bounds.{IsPlan};
+ghost use Rattle.slab_price.specs.Bounds.{IsFrame};
 ghost use Rattle.slab_price.specs.Excess.{IsGreatest};
 ghost use Rattle.slab_price.specs.Searches.{IsQuestion, IsHunt, IsBest, IsBestFrom, IsBestOfPair, HasQueueRoom, HasPickRoom};
 
 use crate::best::Best;
-use crate::plan::Plan;
+use crate::frame::Frame;
 use crate::question::Question;
 use crate::queue::Queue;
 use crate::walk::Hunt;
@@ -42,29 +42,29 @@ impl Picks {
 
 impl Question<'_> {
     /// Whether no column of the two colours exceeds more than the best.
-    fn is_hopeless(&self, plan: &Plan, first: u16, second: u16, best: i128) -> bool
+    fn is_hopeless(&self, frame: &Frame, first: u16, second: u16, best: i128) -> bool
         requires question { IsQuestion self.now.mill.now self.now.table.now self.now.decisions.now self.now.prices.now }
-        requires plan { IsPlan self.now.mill.now self.now.decisions.now.list self.now.prices.now plan.now }
+        requires frame { IsFrame self.now.mill.now self.now.decisions.now.list self.now.prices.now frame.now }
         requires first { first ≤ self.now.mill.now.colours }
         requires second { second ≤ self.now.mill.now.colours }
         ensures { OnTrue result (IsBestOfPair self.now.mill.now self.now.decisions.now.list self.now.prices.now first second best) }
     {
-        plan.most(first, second) + plan.ends[0] <= best
+        frame.most(first, second) + frame.ends[0] <= best
     }
 
     /// Improves the best by the columns of the groups in the queue.
-    fn walk_queue(&self, plan: &Plan, queue: &Queue, picks: &mut Picks)
-        requires hunt { IsHunt self.now.mill.now self.now.table.now self.now.decisions.now self.now.prices.now plan.now queue.now }
+    fn walk_queue(&self, frame: &Frame, queue: &Queue, picks: &mut Picks)
+        requires hunt { IsHunt self.now.mill.now self.now.table.now self.now.decisions.now self.now.prices.now frame.now queue.now }
         requires picks { HasPickRoom (length self.now.mill.now.orders) picks.old }
         requires best { IsBest self.now.mill.now self.now.decisions.now.list self.now.prices.now picks.old.best }
         ensures picks { HasPickRoom (length self.now.mill.now.orders) picks.new }
         ensures grows { picks.old.best.excess ≤ℤ picks.new.best.excess }
         ensures kept { IsBest self.now.mill.now self.now.decisions.now.list self.now.prices.now picks.new.best }
-        ensures greatest { IsBestFrom self.now.mill.now self.now.decisions.now.list self.now.prices.now plan.now.groups queue.now.heads.items (length queue.now.heads.items) [] picks.new.best.excess }
+        ensures greatest { IsBestFrom self.now.mill.now self.now.decisions.now.list self.now.prices.now frame.now.groups queue.now.heads.items (length queue.now.heads.items) [] picks.new.best.excess }
     {
         let hunt = Hunt {
             question: self,
-            plan,
+            frame,
             queue,
         };
         let left = queue.heads.len();
@@ -79,9 +79,16 @@ impl Question<'_> {
     }
 
     /// Improves the best by the columns of two colours.
-    fn price_pair(&self, plan: &Plan, first: u16, second: u16, queue: &mut Queue, picks: &mut Picks)
+    fn price_pair(
+        &self,
+        frame: &Frame,
+        first: u16,
+        second: u16,
+        queue: &mut Queue,
+        picks: &mut Picks,
+    )
         requires question { IsQuestion self.now.mill.now self.now.table.now self.now.decisions.now self.now.prices.now }
-        requires plan { IsPlan self.now.mill.now self.now.decisions.now.list self.now.prices.now plan.now }
+        requires frame { IsFrame self.now.mill.now self.now.decisions.now.list self.now.prices.now frame.now }
         requires first { first ≤ self.now.mill.now.colours }
         requires second { second ≤ self.now.mill.now.colours }
         requires queue { HasQueueRoom (length self.now.mill.now.orders) queue.old }
@@ -93,17 +100,17 @@ impl Question<'_> {
         ensures kept { IsBest self.now.mill.now self.now.decisions.now.list self.now.prices.now picks.new.best }
         ensures greatest { IsBestOfPair self.now.mill.now self.now.decisions.now.list self.now.prices.now first second picks.new.best.excess }
     {
-        if self.is_hopeless(plan, first, second, picks.best.excess) {
+        if self.is_hopeless(frame, first, second, picks.best.excess) {
             return;
         }
-        self.fill_queue(plan, first, second, queue);
-        self.walk_queue(plan, queue, picks);
+        self.fill_queue(frame, first, second, queue);
+        self.walk_queue(frame, queue, picks);
     }
 
     /// Improves the best by the columns of one colour and another that isn't before it.
-    fn price_pairs(&self, plan: &Plan, first: u16, queue: &mut Queue, picks: &mut Picks)
+    fn price_pairs(&self, frame: &Frame, first: u16, queue: &mut Queue, picks: &mut Picks)
         requires question { IsQuestion self.now.mill.now self.now.table.now self.now.decisions.now self.now.prices.now }
-        requires plan { IsPlan self.now.mill.now self.now.decisions.now.list self.now.prices.now plan.now }
+        requires frame { IsFrame self.now.mill.now self.now.decisions.now.list self.now.prices.now frame.now }
         requires first { first ≤ self.now.mill.now.colours }
         requires queue { HasQueueRoom (length self.now.mill.now.orders) queue.old }
         requires picks { HasPickRoom (length self.now.mill.now.orders) picks.old }
@@ -116,14 +123,14 @@ impl Question<'_> {
     {
         let end = self.mill.colours() + 1;
         for second in first..end {
-            self.price_pair(plan, first, second, queue, picks);
+            self.price_pair(frame, first, second, queue, picks);
         }
     }
 
     /// Improves the best by all columns.
-    pub(crate) fn price(&self, plan: &Plan, queue: &mut Queue, picks: &mut Picks)
+    pub(crate) fn price(&self, frame: &Frame, queue: &mut Queue, picks: &mut Picks)
         requires question { IsQuestion self.now.mill.now self.now.table.now self.now.decisions.now self.now.prices.now }
-        requires plan { IsPlan self.now.mill.now self.now.decisions.now.list self.now.prices.now plan.now }
+        requires frame { IsFrame self.now.mill.now self.now.decisions.now.list self.now.prices.now frame.now }
         requires queue { HasQueueRoom (length self.now.mill.now.orders) queue.old }
         requires picks { HasPickRoom (length self.now.mill.now.orders) picks.old }
         requires best { IsBest self.now.mill.now self.now.decisions.now.list self.now.prices.now picks.old.best }
@@ -132,7 +139,7 @@ impl Question<'_> {
     {
         let end = self.mill.colours() + 1;
         for first in 1..end {
-            self.price_pairs(plan, first, queue, picks);
+            self.price_pairs(frame, first, queue, picks);
         }
     }
 }

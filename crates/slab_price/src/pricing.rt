@@ -12,7 +12,8 @@ use std::alloc::{AllocError, Global};
 
 /// The column of greatest excess among the legal columns that the decisions allow, where that excess is above 0, and
 /// `None` exactly where no such column has an excess above 0. A new slab is of the least size that holds its orders. The
-/// only error is want of memory.
+/// only error is want of memory, which is taken before the search: at the limits less than 20 MiB, most of it for a table of
+/// at most 1,048,576 entries.
 pub fn worst(
     alloc: Global,
     mill: &Mill,
@@ -32,9 +33,9 @@ pub fn worst(
         decisions,
         prices,
     };
-    let plan = question.plan(alloc)?;
-    let mut queue = Queue::new(alloc, count, plan.ends.len())?;
+    let frame = question.frame(alloc)?;
+    let mut queue = Queue::new(alloc, count, frame.ends.len())?;
     let mut picks = Picks::new(alloc, count)?;
-    question.price(&plan, &mut queue, &mut picks);
+    question.price(&frame, &mut queue, &mut picks);
     Ok(picks.best.found())
 }

@@ -1,12 +1,12 @@
 ghost use Rattle.std.specs.Prelude.{◌≡◌, ◌+◌, ◌<◌, ◌≤◌, ℕ, List, IfOk, length};
 ghost use Rattle.std.specs.List.{AllByRecursion};
 ghost use Rattle.mill_model.specs.Columns.{Rises};
-ghost use Rattle.slab_price.specs.Bounds.{IsPlan, IsOfColours};
+ghost use Rattle.slab_price.specs.Bounds.{IsFrame, IsOfColours};
 ghost use Rattle.slab_price.specs.Parts.{IsPart, left_of};
 ghost use Rattle.slab_price.specs.Searches.{IsQuestion, IsQueue, HasQueueRoom};
 
+use crate::frame::Frame;
 use crate::marks::{gather, mark};
-use crate::plan::Plan;
 use crate::question::Question;
 use crate::rests::sum_rests;
 use crate::table::tabulate;
@@ -48,18 +48,18 @@ impl Queue {
 
 impl Question<'_> {
     /// Fills the queue with the groups of two colours.
-    pub(crate) fn fill_queue(&self, plan: &Plan, first: u16, second: u16, queue: &mut Queue)
+    pub(crate) fn fill_queue(&self, frame: &Frame, first: u16, second: u16, queue: &mut Queue)
         requires question { IsQuestion self.now.mill.now self.now.table.now self.now.decisions.now self.now.prices.now }
-        requires plan { IsPlan self.now.mill.now self.now.decisions.now.list self.now.prices.now plan.now }
+        requires frame { IsFrame self.now.mill.now self.now.decisions.now.list self.now.prices.now frame.now }
         requires room { HasQueueRoom (length self.now.mill.now.orders) queue.old }
         ensures room { HasQueueRoom (length self.now.mill.now.orders) queue.new }
-        ensures queue { IsQueue self.now.mill.now plan.now queue.new }
-        ensures covers { (taken : List ℕ) → Rises 0 (length self.now.mill.now.orders) taken → AllByRecursion (IsOfColours self.now.mill.now plan.now.groups.heads first second) taken → IsPart taken (left_of queue.new.heads.items (length queue.new.heads.items)) }
+        ensures queue { IsQueue self.now.mill.now frame.now queue.new }
+        ensures covers { (taken : List ℕ) → Rises 0 (length self.now.mill.now.orders) taken → AllByRecursion (IsOfColours self.now.mill.now frame.now.groups.heads first second) taken → IsPart taken (left_of queue.new.heads.items (length queue.new.heads.items)) }
     {
-        let heads = plan.groups.heads();
+        let heads = frame.groups.heads();
         mark(self.mill, heads, first, second, &mut queue.fits);
         gather(heads, &queue.fits, &mut queue.heads);
-        sum_rests(&plan.groups, &queue.heads, &mut queue.rest);
-        tabulate(&plan.groups, &queue.heads, &plan.ends, &mut queue.table);
+        sum_rests(&frame.groups, &queue.heads, &mut queue.rest);
+        tabulate(&frame.groups, &queue.heads, &frame.ends, &mut queue.table);
     }
 }

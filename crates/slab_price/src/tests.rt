@@ -22,7 +22,21 @@ fn mill_of_three_orders(alloc: Global) -> Result<Mill, AllocError>
     Ok(Mill::new(sizes, 1, orders))
 }
 
-/// That mill with a surplus slab, which holds one order.
+/// A mill of one size, which holds three of its six orders.
+fn mill_of_six_orders(alloc: Global) -> Result<Mill, AllocError>
+    ensures orders { IfOk result (λ mill. length mill.orders ≡ 6) }
+    ensures yard { IfOk result (λ mill. mill.yard ≡ []) }
+{
+    let order = Order {
+        weight: 3,
+        colour: 1,
+    };
+    let sizes = vec![in alloc; 10]?;
+    let orders = vec![in alloc; order, order, order, order, order, order]?;
+    Ok(Mill::new(sizes, 1, orders))
+}
+
+/// The mill of three orders with a surplus slab, which holds one order.
 fn mill_with_surplus(alloc: Global) -> Result<Mill, AllocError>
     ensures orders { IfOk result (λ mill. length mill.orders ≡ 3) }
     ensures yard { IfOk result (λ mill. length mill.yard ≡ 1) }
@@ -56,6 +70,16 @@ fn prices_with_surplus(alloc: Global, mu: i8, pi: i8) -> Result<Prices, AllocErr
     let orders = vec![in alloc; pi, pi, pi]?;
     let slabs = vec![in alloc; 0]?;
     Ok(Prices::new(1, mu, orders, slabs))
+}
+
+/// Prices of six orders, each of which is worth 1, and of no surplus slab. Loss costs 1 a unit, a new slab nothing.
+fn prices_of_six(alloc: Global) -> Result<Prices, AllocError>
+    ensures lambda { IfOk result (λ prices. pos 0 ≤ℤ prices.lambda) }
+    ensures pi { IfOk result (λ prices. length prices.pi ≡ 6) }
+    ensures sigma { IfOk result (λ prices. prices.sigma ≡ []) }
+{
+    let orders = vec![in alloc; 1, 1, 1, 1, 1, 1]?;
+    Ok(Prices::new(1, 0, orders, Vec::new(alloc)))
 }
 
 /// What pricing answers.
@@ -110,5 +134,19 @@ fn prefers_the_surplus_slab(rt: HostRuntime) -> Result<(), Fail> {
     assert_eq!(rt; found.kind(), Kind::Old(0));
     assert_eq!(rt; found.orders().len(), 1);
     assert_eq!(rt; found.excess(), 4);
+    Ok(())
+}
+
+#[test]
+fn finds_three_of_six(rt: HostRuntime) -> Result<(), Fail> {
+    let mill = mill_of_six_orders(rt.alloc())?;
+    let decisions = Decisions::new(rt.alloc(), 6, 0)?;
+    let prices = prices_of_six(rt.alloc())?;
+    let Some(found) = answer(rt.alloc(), &mill, &decisions, &prices)? else {
+        return Err(Fail::from("three orders exceed"));
+    };
+    assert_eq!(rt; found.kind(), Kind::New(10));
+    assert_eq!(rt; found.orders().len(), 3);
+    assert_eq!(rt; found.excess(), 2);
     Ok(())
 }

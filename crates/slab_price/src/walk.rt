@@ -8,7 +8,7 @@ ghost use Rattle.slab_price.specs.Parts.{left_of};
 ghost use Rattle.slab_price.specs.Searches.{IsHunt, IsBest, IsBestFrom, AreChosen};
 
 use crate::best::Best;
-use crate::plan::Plan;
+use crate::frame::Frame;
 use crate::question::Question;
 use crate::queue::Queue;
 
@@ -16,7 +16,7 @@ use crate::queue::Queue;
 #[derive(Clone, Copy)]
 pub(crate) struct Hunt<'a> {
     pub question: &'a Question<'a>,
-    pub plan: &'a Plan,
+    pub frame: &'a Frame,
     pub queue: &'a Queue,
 }
 
@@ -50,34 +50,34 @@ fn list_members(heads: &[u16], chosen: &[u16], orders: &mut Vec<u16>)
 impl Hunt<'_> {
     /// What the first groups of the queue gain at most beside a load.
     fn most(&self, left: usize, load: u32) -> i128
-        requires hunt { IsHunt self.now.question.now.mill.now self.now.question.now.table.now self.now.question.now.decisions.now self.now.question.now.prices.now self.now.plan.now self.now.queue.now }
+        requires hunt { IsHunt self.now.question.now.mill.now self.now.question.now.table.now self.now.question.now.decisions.now self.now.question.now.prices.now self.now.frame.now self.now.queue.now }
         requires left { left ≤ length self.now.queue.now.heads.items }
-        requires load { load < length self.now.plan.now.ends.items }
-        ensures most { IsMost self.now.question.now.mill.now self.now.question.now.prices.now self.now.plan.now.groups (left_of self.now.queue.now.heads.items left) load result }
+        requires load { load < length self.now.frame.now.ends.items }
+        ensures most { IsMost self.now.question.now.mill.now self.now.question.now.prices.now self.now.frame.now.groups (left_of self.now.queue.now.heads.items left) load result }
         ensures small { unsigned_abs result ≤ 2 ^ 110 }
     {
-        let loads = self.plan.ends.len();
+        let loads = self.frame.ends.len();
         match self.queue.table.get(left * loads + load as usize) {
             Some(&most) => most,
-            None => self.queue.rest[left] + self.plan.ends[load as usize],
+            None => self.queue.rest[left] + self.frame.ends[load as usize],
         }
     }
 
     /// Whether the groups chosen and some of the first ones can't exceed more than the best.
     fn is_hopeless(&self, left: usize, load: u32, gain: i128, best: i128) -> bool
-        requires hunt { IsHunt self.now.question.now.mill.now self.now.question.now.table.now self.now.question.now.decisions.now self.now.question.now.prices.now self.now.plan.now self.now.queue.now }
+        requires hunt { IsHunt self.now.question.now.mill.now self.now.question.now.table.now self.now.question.now.decisions.now self.now.question.now.prices.now self.now.frame.now self.now.queue.now }
         requires left { left ≤ length self.now.queue.now.heads.items }
-        requires load { load < length self.now.plan.now.ends.items }
+        requires load { load < length self.now.frame.now.ends.items }
         requires small { unsigned_abs gain ≤ 2 ^ 92 }
-        ensures { OnTrue result (IsMost self.now.question.now.mill.now self.now.question.now.prices.now self.now.plan.now.groups (left_of self.now.queue.now.heads.items left) load (best -ℤ gain)) }
+        ensures { OnTrue result (IsMost self.now.question.now.mill.now self.now.question.now.prices.now self.now.frame.now.groups (left_of self.now.queue.now.heads.items left) load (best -ℤ gain)) }
     {
         gain + self.most(left, load) <= best
     }
 
     /// Offers the orders of the groups chosen.
     fn offer(&self, weight: u32, gain: i128, chosen: &[u16], orders: &mut Vec<u16>, best: &mut Best)
-        requires hunt { IsHunt self.now.question.now.mill.now self.now.question.now.table.now self.now.question.now.decisions.now self.now.question.now.prices.now self.now.plan.now self.now.queue.now }
-        requires chosen { AreChosen self.now.plan.now.groups self.now.queue.now.heads.items 0 chosen.now weight gain }
+        requires hunt { IsHunt self.now.question.now.mill.now self.now.question.now.table.now self.now.question.now.decisions.now self.now.question.now.prices.now self.now.frame.now self.now.queue.now }
+        requires chosen { AreChosen self.now.frame.now.groups self.now.queue.now.heads.items 0 chosen.now weight gain }
         requires orders { length self.now.question.now.mill.now.orders ≤ vec_capacity orders.old }
         requires best { IsBest self.now.question.now.mill.now self.now.question.now.decisions.now.list self.now.question.now.prices.now best.old }
         requires room { length self.now.question.now.mill.now.orders ≤ vec_capacity best.old.orders }
@@ -85,9 +85,9 @@ impl Hunt<'_> {
         ensures room { length self.now.question.now.mill.now.orders ≤ vec_capacity best.new.orders }
         ensures grows { best.old.excess ≤ℤ best.new.excess }
         ensures kept { IsBest self.now.question.now.mill.now self.now.question.now.decisions.now.list self.now.question.now.prices.now best.new }
-        ensures greatest { IsBestFrom self.now.question.now.mill.now self.now.question.now.decisions.now.list self.now.question.now.prices.now self.now.plan.now.groups self.now.queue.now.heads.items 0 chosen.now best.new.excess }
+        ensures greatest { IsBestFrom self.now.question.now.mill.now self.now.question.now.decisions.now.list self.now.question.now.prices.now self.now.frame.now.groups self.now.queue.now.heads.items 0 chosen.now best.new.excess }
     {
-        list_members(self.plan.groups.heads(), chosen, orders);
+        list_members(self.frame.groups.heads(), chosen, orders);
         if !orders.is_empty() {
             self.question.offer(weight, gain, orders, best);
         }
@@ -104,10 +104,10 @@ impl Hunt<'_> {
         orders: &mut Vec<u16>,
         best: &mut Best,
     )
-        requires hunt { IsHunt self.now.question.now.mill.now self.now.question.now.table.now self.now.question.now.decisions.now self.now.question.now.prices.now self.now.plan.now self.now.queue.now }
+        requires hunt { IsHunt self.now.question.now.mill.now self.now.question.now.table.now self.now.question.now.decisions.now self.now.question.now.prices.now self.now.frame.now self.now.queue.now }
         requires left { left ≤ length self.now.queue.now.heads.items }
-        requires light { weight < length self.now.plan.now.ends.items }
-        requires chosen { AreChosen self.now.plan.now.groups self.now.queue.now.heads.items left chosen.old.items weight gain }
+        requires light { weight < length self.now.frame.now.ends.items }
+        requires chosen { AreChosen self.now.frame.now.groups self.now.queue.now.heads.items left chosen.old.items weight gain }
         requires capacity { length self.now.queue.now.heads.items ≤ vec_capacity chosen.old }
         requires orders { length self.now.question.now.mill.now.orders ≤ vec_capacity orders.old }
         requires best { IsBest self.now.question.now.mill.now self.now.question.now.decisions.now.list self.now.question.now.prices.now best.old }
@@ -118,7 +118,7 @@ impl Hunt<'_> {
         ensures room { length self.now.question.now.mill.now.orders ≤ vec_capacity best.new.orders }
         ensures grows { best.old.excess ≤ℤ best.new.excess }
         ensures kept { IsBest self.now.question.now.mill.now self.now.question.now.decisions.now.list self.now.question.now.prices.now best.new }
-        ensures greatest { IsBestFrom self.now.question.now.mill.now self.now.question.now.decisions.now.list self.now.question.now.prices.now self.now.plan.now.groups self.now.queue.now.heads.items left chosen.old.items best.new.excess }
+        ensures greatest { IsBestFrom self.now.question.now.mill.now self.now.question.now.decisions.now.list self.now.question.now.prices.now self.now.frame.now.groups self.now.queue.now.heads.items left chosen.old.items best.new.excess }
     {
         if self.is_hopeless(left, weight, gain, best.excess) {
             return;
@@ -128,12 +128,12 @@ impl Hunt<'_> {
             return;
         }
         let head = self.queue.heads[left - 1];
-        let heavier = weight + self.plan.groups.weight(head as usize);
-        if heavier as usize >= self.plan.ends.len() {
+        let heavier = weight + self.frame.groups.weight(head as usize);
+        if heavier as usize >= self.frame.ends.len() {
             self.walk(left - 1, weight, gain, chosen, orders, best);
             return;
         }
-        let richer = gain + self.plan.groups.gain(head as usize);
+        let richer = gain + self.frame.groups.gain(head as usize);
         chosen.push_reserved(head);
         self.walk(left - 1, heavier, richer, chosen, orders, best);
         chosen.pop();

@@ -12,13 +12,13 @@ use Rattle.slab_price.proofs.question.Question.is_hopeless.Goals as goal
 
 pub returns : goal.returns
 returns c =
-    OnTrue_from _ _ (λ e. hopeless_pair c.args.self.now.mill.now c.args.self.now.decisions.now.list c.args.self.now.prices.now c.args.plan.now.groups c.requires.plan.groups c.args.first c.args.second c.args.plan.now c.args.best refl c.requires.plan c.requires.first c.requires.second (low e))
+    OnTrue_from _ _ (λ e. hopeless_pair c.args.self.now.mill.now c.args.self.now.decisions.now.list c.args.self.now.prices.now c.args.frame.now.groups c.requires.frame.groups c.args.first c.args.second c.args.frame.now c.args.best refl c.requires.frame c.requires.first c.requires.second (low e))
   where
-    end : c.index.result.now ≡ get_or c.args.plan.now.ends.items 0 (pos 0)
-    end = c.index.ensures ∙ get_or_default c.args.plan.now.ends.items 0 c.index.result.now (pos 0) c.requires.plan.ends.some
+    end : c.index.result.now ≡ get_or c.args.frame.now.ends.items 0 (pos 0)
+    end = c.index.ensures ∙ get_or_default c.args.frame.now.ends.items 0 c.index.result.now (pos 0) c.requires.frame.ends.some
 
-    low : le_z (to_z w128 (of_z w128 (to_z w128 (of_z w128 c.most.result) +ℤ to_z w128 (of_z w128 c.index.result.now)))) (to_z w128 (of_z w128 c.args.best)) ≡ true → (plus_of c.args.plan.now.plus.items c.args.first c.args.second +ℤ get_or c.args.plan.now.ends.items 0 (pos 0)) ≤ℤ c.args.best
+    low : le_z (to_z w128 (of_z w128 (to_z w128 (of_z w128 c.most.result) +ℤ to_z w128 (of_z w128 c.index.result.now)))) (to_z w128 (of_z w128 c.args.best)) ≡ true → (plus_of c.args.frame.now.plus.items c.args.first c.args.second +ℤ get_or c.args.frame.now.ends.items 0 (pos 0)) ≤ℤ c.args.best
     low e =
-        let end_small : unsigned_abs (get_or c.args.plan.now.ends.items 0 (pos 0)) ≤ 2 ^ 100 = c.requires.plan.ends.small 0 c.requires.plan.ends.some in
+        let end_small : unsigned_abs (get_or c.args.frame.now.ends.items 0 (pos 0)) ≤ 2 ^ 100 = c.requires.frame.ends.small 0 c.requires.frame.ends.some in
         let held : to_z w128 (of_z w128 (to_z w128 (of_z w128 c.most.result) +ℤ to_z w128 (of_z w128 c.index.result.now))) ≤ℤ to_z w128 (of_z w128 c.args.best) = le_true (to_z w128 (of_z w128 (to_z w128 (of_z w128 c.most.result) +ℤ to_z w128 (of_z w128 c.index.result.now)))) (to_z w128 (of_z w128 c.args.best)) e in
         omega (arith, ints, held, end, end_small, c.most.ensures.most, c.most.ensures.small, c.ranges.best)

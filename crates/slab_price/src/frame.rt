@@ -1,21 +1,21 @@
 ghost use Rattle.std.specs.Prelude.{◌≡◌, ◌<◌, ◌≤◌, ◌^◌, ℕ, pos, IfOk, length, slice_index_or, unsigned_abs};
-ghost use Rattle.slab_price.specs.Bounds.{IsPlan, plus_of};
+ghost use Rattle.slab_price.specs.Bounds.{IsFrame, plus_of};
 ghost use Rattle.slab_price.specs.Searches.{IsQuestion};
 
 use crate::groups::Groups;
 use crate::question::Question;
 use std::alloc::{AllocError, Global};
 
-/// What stands through a call: the groups, for each load at least what a slab earns that holds it, and for each colour what its
-/// groups gain at most.
+/// What stands through a call: the groups, for each load what a slab that holds it costs at least (with its sign turned), and for
+/// each colour what the groups gain at most whose head has it.
 #[derive(Drop)]
-pub(crate) struct Plan {
+pub(crate) struct Frame {
     pub groups: Groups,
     pub ends: Vec<i128>,
     pub plus: Vec<i128>,
 }
 
-impl Plan {
+impl Frame {
     /// What groups of two colours gain at most.
     pub(crate) fn most(&self, first: u16, second: u16) -> i128
         requires first { first < length self.now.plus.items }
@@ -33,15 +33,15 @@ impl Plan {
 }
 
 impl Question<'_> {
-    /// The plan for what is asked.
-    pub(crate) fn plan(&self, alloc: Global) -> Result<Plan, AllocError>
+    /// What stands through a call.
+    pub(crate) fn frame(&self, alloc: Global) -> Result<Frame, AllocError>
         requires question { IsQuestion self.now.mill.now self.now.table.now self.now.decisions.now self.now.prices.now }
-        ensures { IfOk result (IsPlan self.now.mill.now self.now.decisions.now.list self.now.prices.now) }
+        ensures { IfOk result (IsFrame self.now.mill.now self.now.decisions.now.list self.now.prices.now) }
     {
         let mut groups = Groups::new(alloc, self.mill.orders().len())?;
         groups.form(self.mill, self.decisions, self.prices);
         let ends = self.ends(alloc)?;
         let plus = self.plus(alloc, &groups)?;
-        Ok(Plan { groups, ends, plus })
+        Ok(Frame { groups, ends, plus })
     }
 }
