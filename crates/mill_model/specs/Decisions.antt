@@ -1,5 +1,5 @@
 -- Branching decisions, and which plans and columns agree with them.
-use Rattle.std.specs.Prelude.{◌≡◌, ◌<◌, Bool, cond, not, ◌&&◌, eqb, List, length, slice_index, slice_index_or}
+use Rattle.std.specs.Prelude.{◌≡◌, ℕ, ◌<◌, Bool, cond, not, ◌&&◌, eqb, List, length, slice_index, slice_index_or}
 use Rattle.std.specs.List.{list_all, AllByRecursion}
 use Rattle.mill_model.specs.declared.kind.Kind.TheVariants.{New}
 use Rattle.mill_model.specs.declared.ask.Ask.{Ask}
@@ -8,10 +8,14 @@ use Rattle.mill_model.specs.Mill.{Mill}
 use Rattle.mill_model.specs.Plans.{Plan}
 use Rattle.mill_model.specs.Columns.{Column, has, is_old}
 
+-- a question of a mill with so many orders and surplus slabs
+abbrev pub IsAskAmong : ℕ → ℕ → Ask → Type 0
+IsAskAmong orders slabs (Pair i j) = (i < j) × (j < orders)
+IsAskAmong orders slabs (Put o s) = (o < orders) × (s < slabs)
+
 -- a question of this mill
 abbrev pub IsAsk : Mill → Ask → Type 0
-IsAsk m (Pair i j) = (i < j) × (j < length m.orders)
-IsAsk m (Put o s) = (o < length m.orders) × (s < length m.yard)
+IsAsk m ask = IsAskAmong (length m.orders) (length m.yard) ask
 
 -- a question with its answer
 abbrev pub Decision : Type 0

@@ -23,6 +23,11 @@ Plain E = Tree (Unit {0}) E
 abbrev pub IsFresh : Ask → List Decision → Type 0
 IsFresh ask decisions = Contains (map (λ (d : Decision). d.0) decisions) ask → ⊥
 
+-- no question is asked twice
+abbrev pub AreAskedOnce : List Decision → Type 0
+AreAskedOnce [] = Unit {0}
+AreAskedOnce (d ∷ decisions) = IsFresh d.0 decisions × AreAskedOnce decisions
+
 -- each end is as Holds says of it and of the decisions above it, the latest first, and each question is one of the mill and fresh
 abbrev pub IsTree : {M E : Type 0} → Mill → (E → List Decision → Type 0) → Tree M E → List Decision → Type 0
 IsTree m Holds (End e) decisions = Holds e decisions
@@ -71,9 +76,16 @@ abbrev pub nodes : {M E : Type 0} → Tree M E → ℕ
 nodes (End e) = 1
 nodes (Split mark ask if_yes if_no) = 1 + nodes if_yes + nodes if_no
 
--- how many questions a mill has
+-- how many pairs so many orders have
+abbrev pub pair_count : ℕ → ℕ
+pair_count orders = orders * (orders - 1) / 2
+
+-- how many questions a mill with so many orders and surplus slabs has
+abbrev pub asks_among : ℕ → ℕ → ℕ
+asks_among orders slabs = pair_count orders + orders * slabs
+
 abbrev pub ask_count : Mill → ℕ
-ask_count m = length m.orders * (length m.orders - 1) / 2 + length m.orders * length m.yard
+ask_count m = asks_among (length m.orders) (length m.yard)
 
 -- a tree has fewer nodes than this
 abbrev pub most_nodes : Mill → ℕ

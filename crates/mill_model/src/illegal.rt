@@ -16,8 +16,8 @@ pub enum Illegal {
     /// The size of this new slab isn't listed.
     #[error("the size of slab {0} isn't listed")]
     Size(u16),
-    /// This surplus slab isn't in the yard.
-    #[error("surplus slab {0} isn't in the yard")]
+    /// This slab is a surplus slab that isn't in the yard.
+    #[error("slab {0} is a surplus slab that isn't in the yard")]
     Yard(u16),
     /// An earlier slab is the same surplus slab as this one.
     #[error("slab {0} is the same surplus slab as an earlier one")]

@@ -7,8 +7,10 @@ use Rattle.std.proofs.lemmas.List.Sums.{sum_by-cons, sum_by-set}
 use Rattle.mill_model.specs.declared.ask.Ask.{Ask}
 use Rattle.mill_model.specs.Decisions.{Decision}
 use Rattle.mill_model.specs.Trees.{IsFresh}
-use Rattle.price_check.specs.Questions.{IsAskOf, ask_count}
-use Rattle.price_check.specs.Path.{asks_of, AreDistinct, ArePath}
+use Rattle.mill_model.specs.Decisions.{IsAskAmong}
+use Rattle.mill_model.specs.Trees.{asks_among}
+use Rattle.mill_model.specs.Trees.{AreAskedOnce}
+use Rattle.price_check.specs.Path.{asks_of, ArePath}
 use Rattle.price_check.specs.Marks.{place_of, AreMarked}
 use Rattle.price_check.proofs.Places.{place_of-injective}
 
@@ -35,7 +37,7 @@ restored marks a e = set-set marks a true false ∙ ap (set marks a) (sym e) ∙
 
 module _ (n s : ℕ) where
   -- a fresh question is marked
-  pub AreMarked-put : (decisions : List Decision) (marks : List Bool) (ask : Ask) (answer : Bool) → AreMarked n s decisions marks → IsAskOf n s ask → place_of n s ask < length marks → get_or marks (place_of n s ask) false ≡ false
+  pub AreMarked-put : (decisions : List Decision) (marks : List Bool) (ask : Ask) (answer : Bool) → AreMarked n s decisions marks → IsAskAmong n s ask → place_of n s ask < length marks → get_or marks (place_of n s ask) false ≡ false
       → AreMarked n s ((ask, answer) ∷ decisions) (set marks (place_of n s ask) true)
   AreMarked-put decisions marks ask answer are asked lt free =
       (asked, get_or-set_same marks (place_of n s ask) true false lt, subst (λ (ms : List Bool). AreMarked n s decisions ms) (sym (restored marks (place_of n s ask) free)) are)
@@ -47,7 +49,7 @@ module _ (n s : ℕ) where
   marked_where_asked (d ∷ decisions) marks ask are (suc k, lt, e) = (still_marked marks (place_of n s d.0) (place_of n s ask) (marked_where_asked decisions (set marks (place_of n s d.0) false) ask are.2 (k, omega arith, e))).1
 
   -- a question that is marked is answered
-  pub asked_where_marked : (decisions : List Decision) (marks : List Bool) (ask : Ask) → AreMarked n s decisions marks → IsAskOf n s ask → get_or marks (place_of n s ask) false ≡ true → Contains (asks_of decisions) ask
+  pub asked_where_marked : (decisions : List Decision) (marks : List Bool) (ask : Ask) → AreMarked n s decisions marks → IsAskAmong n s ask → get_or marks (place_of n s ask) false ≡ true → Contains (asks_of decisions) ask
   asked_where_marked [] marks ask are asked e = absurd (both_ways (get_or marks (place_of n s ask) false) (are (place_of n s ask)) e)
   asked_where_marked (d ∷ decisions) marks ask are asked e = elim (cases_eq (place_of n s ask) (place_of n s d.0)) [
     | inl same ↦ (0, omega arith, place_of-injective n s d.0 ask are.0 asked (sym same))
@@ -60,11 +62,11 @@ module _ (n s : ℕ) where
   pub latest_fresh : (d : Decision) (decisions : List Decision) (marks : List Bool) → AreMarked n s (d ∷ decisions) marks → IsFresh d.0 decisions
   latest_fresh d decisions marks are found = (still_marked marks (place_of n s d.0) (place_of n s d.0) (marked_where_asked decisions (set marks (place_of n s d.0) false) d.0 are.2 found)).0 refl
 
-  all_asked : (decisions : List Decision) (marks : List Bool) → AreMarked n s decisions marks → AllByRecursion (λ (d : Decision). IsAskOf n s d.0) decisions
+  all_asked : (decisions : List Decision) (marks : List Bool) → AreMarked n s decisions marks → AllByRecursion (λ (d : Decision). IsAskAmong n s d.0) decisions
   all_asked [] marks are = tt
   all_asked (d ∷ decisions) marks are = (are.0, all_asked decisions (set marks (place_of n s d.0) false) are.2)
 
-  all_distinct : (decisions : List Decision) (marks : List Bool) → AreMarked n s decisions marks → AreDistinct decisions
+  all_distinct : (decisions : List Decision) (marks : List Bool) → AreMarked n s decisions marks → AreAskedOnce decisions
   all_distinct [] marks are = tt
   all_distinct (d ∷ decisions) marks are = (latest_fresh d decisions marks are, all_distinct decisions (set marks (place_of n s d.0) false) are.2)
 
@@ -88,5 +90,5 @@ module _ (n s : ℕ) where
   pub few_decisions : (decisions : List Decision) (marks : List Bool) → AreMarked n s decisions marks → length decisions ≤ length marks
   few_decisions decisions marks are = omega (arith, counted decisions marks are)
 
-  pub ArePath-from_marks : (decisions : List Decision) (marks : List Bool) → AreMarked n s decisions marks → length marks ≡ ask_count n s → ArePath n s decisions
+  pub ArePath-from_marks : (decisions : List Decision) (marks : List Bool) → AreMarked n s decisions marks → length marks ≡ asks_among n s → ArePath n s decisions
   ArePath-from_marks decisions marks are size = record { asks = all_asked decisions marks are; distinct = all_distinct decisions marks are; count = omega (arith, few_decisions decisions marks are) }

@@ -4,7 +4,8 @@ use Rattle.std.proofs.Math.Arith.{digits_div, digits_mod, digits_lt}
 use Rattle.std.proofs.lemmas.Bool.{cases_order}
 use Rattle.mill_model.specs.declared.ask.Ask.{Ask}
 use Rattle.mill_model.specs.declared.ask.Ask.TheVariants.{Pair, Put}
-use Rattle.price_check.specs.Questions.{IsAskOf, pair_count, ask_count}
+use Rattle.mill_model.specs.Decisions.{IsAskAmong}
+use Rattle.mill_model.specs.Trees.{pair_count, asks_among}
 use Rattle.price_check.specs.Marks.{place_of}
 
 one_less : (n : ℕ) → suc n - 1 ≡ n
@@ -30,7 +31,7 @@ pair_count_le m (suc n) h = elim (cases_order m (suc n)) [
 before : (i j l : ℕ) → i < j → j < l → pair_count j + i < pair_count l
 before i j l h le = omega (arith, pair_count-suc j, pair_count_le (suc j) l (omega arith))
 
-pub place_of-lt : (n s : ℕ) (ask : Ask) → IsAskOf n s ask → place_of n s ask < ask_count n s
+pub place_of-lt : (n s : ℕ) (ask : Ask) → IsAskAmong n s ask → place_of n s ask < asks_among n s
 place_of-lt n s (Pair i j) h = omega (arith, before i j n h.0 h.1)
 place_of-lt n s (Put o t) h = omega (arith, digits_lt {q = o} {m = n} {r = t} {c = s} h.0 h.1)
 
@@ -41,7 +42,7 @@ same_pair i j k l h g e = elim (cases_order j l) [
   | inr (inr more) ↦ absurd (omega (arith, before k l j g more))
 ]
 
-pub place_of-injective : (n s : ℕ) (a b : Ask) → IsAskOf n s a → IsAskOf n s b → place_of n s a ≡ place_of n s b → a ≡ b
+pub place_of-injective : (n s : ℕ) (a b : Ask) → IsAskAmong n s a → IsAskAmong n s b → place_of n s a ≡ place_of n s b → a ≡ b
 place_of-injective n s (Pair i j) (Pair k l) p q e =
     let both : (i ≡ k) × (j ≡ l) = same_pair i j k l p.0 q.0 e in
     let first : i ≡ k = both.0 in

@@ -4,12 +4,12 @@ use Rattle.std.proofs.lemmas.Bool.{false_from_ne_true}
 use Rattle.mill_model.specs.declared.ask.Ask.{Ask}
 use Rattle.mill_model.specs.Decisions.{Decision}
 use Rattle.mill_model.specs.Trees.{IsFresh}
-use Rattle.price_check.specs.Questions.{IsAskOf}
+use Rattle.mill_model.specs.Decisions.{IsAskAmong}
 use Rattle.price_check.specs.Marks.{place_of, IsMarkedTrail}
 use Rattle.price_check.proofs.Places.{place_of-lt}
 use Rattle.price_check.proofs.Marks.{AreMarked-put, asked_where_marked, few_decisions}
 
-module _ (n s : ℕ) (decisions : List Decision) (marks : List Bool) (capacity : ℕ) (trail : IsMarkedTrail n s decisions marks capacity) (ask : Ask) (asked : IsAskOf n s ask) where
+module _ (n s : ℕ) (decisions : List Decision) (marks : List Bool) (capacity : ℕ) (trail : IsMarkedTrail n s decisions marks capacity) (ask : Ask) (asked : IsAskAmong n s ask) where
   -- the question's place is that of a mark
   pub place_within : place_of n s ask < length marks
   place_within = omega (arith, place_of-lt n s ask asked, trail.size)

@@ -1,4 +1,3 @@
-pub mod Questions
 pub mod Path
 pub mod Marks
 pub mod Numbers

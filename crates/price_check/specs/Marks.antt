@@ -3,7 +3,8 @@ use Rattle.std.specs.Prelude.{◌≡◌, ℕ, ◌+◌, ◌*◌, ◌≤◌, Bool,
 use Rattle.mill_model.specs.declared.ask.Ask.{Ask}
 use Rattle.mill_model.specs.declared.ask.Ask.TheVariants.{Pair, Put}
 use Rattle.mill_model.specs.Decisions.{Decision}
-use Rattle.price_check.specs.Questions.{IsAskOf, pair_count, ask_count}
+use Rattle.mill_model.specs.Decisions.{IsAskAmong}
+use Rattle.mill_model.specs.Trees.{pair_count, asks_among}
 
 -- the place of a question's mark: pairs by their greater order, then the orders with each surplus slab
 abbrev pub place_of : ℕ → ℕ → Ask → ℕ
@@ -14,12 +15,12 @@ place_of orders slabs (Put o s) = pair_count orders + (o * slabs + s)
 abbrev pub AreMarked : ℕ → ℕ → List Decision → List Bool → Type 0
 AreMarked orders slabs [] marks = (k : ℕ) → slice_index_or marks k false ≡ false
 AreMarked orders slabs (d ∷ decisions) marks =
-    IsAskOf orders slabs d.0 × (slice_index_or marks (place_of orders slabs d.0) false ≡ true) × AreMarked orders slabs decisions (slice_set marks (place_of orders slabs d.0) false)
+    IsAskAmong orders slabs d.0 × (slice_index_or marks (place_of orders slabs d.0) false ≡ true) × AreMarked orders slabs decisions (slice_set marks (place_of orders slabs d.0) false)
 
 -- there is a mark for each question, and room for each decision
 pub record IsMarkedTrail (orders slabs : ℕ) (decisions : List Decision) (marks : List Bool) (capacity : ℕ) : Type 0 where
   pub few_orders : orders ≤ 250
   pub few_slabs : slabs ≤ 40
-  pub size : length marks ≡ ask_count orders slabs
+  pub size : length marks ≡ asks_among orders slabs
   pub marked : AreMarked orders slabs decisions marks
-  pub room : ask_count orders slabs ≤ capacity
+  pub room : asks_among orders slabs ≤ capacity

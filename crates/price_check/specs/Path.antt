@@ -1,11 +1,11 @@
 -- A path down a tree, as contracts see it.
-use Rattle.std.specs.Prelude.{ℕ, ◌≤◌, List, [], ◌∷◌, map, length, Option}
+use Rattle.std.specs.Prelude.{ℕ, ◌≤◌, List, map, length, Option}
 use Rattle.std.specs.List.{AllByRecursion}
 use Rattle.mill_model.specs.declared.ask.Ask.{Ask}
 use Rattle.mill_model.specs.Columns.{Column}
 use Rattle.mill_model.specs.Decisions.{Decision}
-use Rattle.mill_model.specs.Trees.{IsFresh}
-use Rattle.price_check.specs.Questions.{IsAskOf, ask_count}
+use Rattle.mill_model.specs.Decisions.{IsAskAmong}
+use Rattle.mill_model.specs.Trees.{asks_among, AreAskedOnce}
 
 pub record Path : Type 0 where
   -- how many orders and surplus slabs the mill has
@@ -25,13 +25,8 @@ pub record Trail : Type 0 where
 abbrev pub asks_of : List Decision → List Ask
 asks_of decisions = map (λ (d : Decision). d.0) decisions
 
--- no question is asked twice
-abbrev pub AreDistinct : List Decision → Type 0
-AreDistinct [] = Unit {0}
-AreDistinct (d ∷ decisions) = IsFresh d.0 decisions × AreDistinct decisions
-
 -- what is true of the decisions of every path for so many orders and surplus slabs
 pub record ArePath (orders slabs : ℕ) (decisions : List Decision) : Type 0 where
-  pub asks : AllByRecursion (λ (d : Decision). IsAskOf orders slabs d.0) decisions
-  pub distinct : AreDistinct decisions
-  pub count : length decisions ≤ ask_count orders slabs
+  pub asks : AllByRecursion (λ (d : Decision). IsAskAmong orders slabs d.0) decisions
+  pub distinct : AreAskedOnce decisions
+  pub count : length decisions ≤ asks_among orders slabs

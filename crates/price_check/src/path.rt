@@ -4,7 +4,7 @@ ghost use Rattle.mill_model.specs.Columns.{Rises};
 ghost use Rattle.mill_model.specs.Decisions.{column_agrees};
 ghost use Rattle.mill_model.specs.Paths.{next_branch as branch_after};
 ghost use Rattle.mill_model.specs.Prices.{Refutes};
-ghost use Rattle.price_check.specs.Questions.{IsAskOf};
+ghost use Rattle.mill_model.specs.Decisions.{IsAskAmong};
 ghost use Rattle.price_check.specs.Numbers.{prices_of};
 ghost use Rattle.price_check.specs.Rules.{HasCount, BreaksFirst};
 ghost use Rattle.price_check.specs.Exceeding.{IsExceeding};
@@ -82,7 +82,7 @@ impl Path {
     /// Adds a question with the answer yes and answers true. Where the question stands on the path already, it answers
     /// false and the decisions stay.
     pub fn push(&mut self, ask: Ask) -> bool
-        requires { IsAskOf self.old.orders self.old.slabs ask }
+        requires { IsAskAmong self.old.orders self.old.slabs ask }
         ensures stands { (result ≡ false) ↔ Contains (asks_of self.old.decisions) ask }
         ensures path { self.new ≡ record self.old { decisions = (if result then (ask, true) ∷ self.old.decisions else self.old.decisions); bad = None } }
         ensures asks { ArePath self.new.orders self.new.slabs self.new.decisions }

@@ -1,6 +1,7 @@
 //! A place for each question of a mill.
 ghost use Rattle.std.specs.Prelude.{◌≡◌, ◌≤◌};
-ghost use Rattle.price_check.specs.Questions.{IsAskOf, pair_count, ask_count};
+ghost use Rattle.mill_model.specs.Decisions.{IsAskAmong};
+ghost use Rattle.mill_model.specs.Trees.{pair_count, asks_among};
 ghost use Rattle.price_check.specs.Marks.{place_of};
 
 use mill_model::Ask;
@@ -17,14 +18,14 @@ fn pair_count(orders: usize) -> usize
 pub(crate) fn ask_count(orders: usize, slabs: usize) -> usize
     requires few_orders { orders ≤ 250 }
     requires few_slabs { slabs ≤ 40 }
-    ensures { result ≡ ask_count orders slabs }
+    ensures { result ≡ asks_among orders slabs }
 {
     pair_count(orders) + orders * slabs
 }
 
 // The place of a question among all questions.
 pub(crate) fn place_of(orders: usize, slabs: usize, ask: Ask) -> usize
-    requires asked { IsAskOf orders slabs ask }
+    requires asked { IsAskAmong orders slabs ask }
     requires few_orders { orders ≤ 250 }
     requires few_slabs { slabs ≤ 40 }
     ensures { result ≡ place_of orders slabs ask }

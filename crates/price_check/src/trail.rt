@@ -4,7 +4,7 @@ ghost use Rattle.mill_model.specs.Columns.{has, is_old};
 ghost use Rattle.mill_model.specs.Decisions.{agrees, column_agrees};
 ghost use Rattle.mill_model.specs.Paths.{next_branch as branch_after};
 ghost use Rattle.mill_model.specs.Trees.{IsFresh};
-ghost use Rattle.price_check.specs.Questions.{IsAskOf};
+ghost use Rattle.mill_model.specs.Decisions.{IsAskAmong};
 
 use crate::questions::{ask_count, place_of};
 use mill_model::{Ask, Kind};
@@ -56,7 +56,7 @@ impl Trail {
 
     // Whether a question is answered.
     pub(crate) fn stands(&self, ask: Ask) -> bool
-        requires { IsAskOf self.now.orders self.now.slabs ask }
+        requires { IsAskAmong self.now.orders self.now.slabs ask }
         ensures stands { IsTrue result ↔ Contains (asks_of self.now.decisions) ask }
         ensures path { ArePath self.now.orders self.now.slabs self.now.decisions }
     {
@@ -65,7 +65,7 @@ impl Trail {
 
     // Answers a question.
     pub(crate) fn put(&mut self, ask: Ask, answer: bool)
-        requires asked { IsAskOf self.old.orders self.old.slabs ask }
+        requires asked { IsAskAmong self.old.orders self.old.slabs ask }
         requires fresh { IsFresh ask self.old.decisions }
         ensures put { self.new ≡ record self.old { decisions = (ask, answer) ∷ self.old.decisions } }
         ensures path { ArePath self.new.orders self.new.slabs self.new.decisions }
@@ -78,7 +78,7 @@ impl Trail {
     // Takes off the latest decision, if there is one.
     pub(crate) fn pop(&mut self) -> Option<(Ask, bool)>
         ensures { MatchOption result ((self.old.decisions ≡ []) × (self.new ≡ self.old))
-            (λ d. (self.old ≡ record self.new { decisions = d ∷ self.new.decisions }) × IsAskOf self.new.orders self.new.slabs d.0 × IsFresh d.0 self.new.decisions) }
+            (λ d. (self.old ≡ record self.new { decisions = d ∷ self.new.decisions }) × IsAskAmong self.new.orders self.new.slabs d.0 × IsFresh d.0 self.new.decisions) }
     {
         let (ask, answer) = self.decisions.pop()?;
         let place = place_of(self.orders, self.slabs, ask);

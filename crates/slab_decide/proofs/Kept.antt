@@ -1,5 +1,5 @@
 -- What follows from decisions is what the relations say.
-use Rattle.std.proofs.Common.{◌≡◌, ◌≢◌, ℕ, ◌+◌, ◌<◌, ◌≤◌, Bool, true, false, not, List, [], ◌∷◌, ◌++◌, Contains, ◌-◌, reverse, length, get_or, refl, sym, ap, ap₂, ◌∙◌, subst, inl, inr, arith}
+use Rattle.std.proofs.Common.{◌≡◌, ◌≢◌, ℕ, ◌+◌, ◌<◌, ◌≤◌, Bool, true, false, not, List, [], ◌∷◌, ◌++◌, Contains, ◌-◌, reverse, length, get_or, refl, sym, ap, ap₂, ◌∙◌, subst, inl, inr, arith, zero, suc}
 use Rattle.std.specs.List.{AllByRecursion}
 use Rattle.std.proofs.lemmas.List.{reverse-append, reverse-reverse, length-reverse, get_or-reverse}
 use Rattle.std.proofs.lemmas.Bool.{false_from_ne_true, both_ways}
@@ -15,10 +15,16 @@ use Rattle.slab_closure.specs.Relations.{Table, Relations, IsClosed, IsRelations
 use Rattle.slab_closure.specs.Labels.{Holds, Decides}
 use Rattle.slab_closure.proofs.Closed.{decided_closed, decided_keeps_same, decided_keeps_apart, joined_itself, parted_itself}
 use Rattle.slab_closure.proofs.Labels.{decided_holds, start_holds}
-use Rattle.slab_decide.specs.Decided.{Decisions, IsAskOf, AreDecisions, AreAskedOnce, AreConsistent, IsOpen}
+use Rattle.mill_model.specs.Trees.{AreAskedOnce, IsFresh}
+use Rattle.slab_decide.specs.Decided.{Decisions, IsAskOf, AreDecisions, AreConsistent, IsOpen}
 use Rattle.slab_decide.specs.Nodes.{first_node, second_node, relation_of}
 use Rattle.slab_decide.specs.Kept.{group_at, IsRecorded, IsKept}
 use Rattle.slab_decide.proofs.Bridge.{answer_by_nodes, first_in, second_in, group_at_slab, assigned, assigned_answers, assigned_agrees}
+
+fresh_from : (ask : Ask) (list : List Decision) → AllByRecursion (λ (e : Decision). ask ≡ e.0 → ⊥) list → IsFresh ask list
+fresh_from ask [] all found = omega (arith, found.1)
+fresh_from ask (d ∷ list) all (zero, lt, e) = all.0 (sym e)
+fresh_from ask (d ∷ list) all (suc k, lt, e) = fresh_from ask list all.1 (k, omega (arith, lt), e)
 
 module _ (v : Decisions) (r : Relations) (kept : IsKept v r) where
   closed : IsClosed r.count v.yard (relation_at r)
@@ -104,7 +110,7 @@ module _ (v : Decisions) (r : Relations) (kept : IsKept v r) where
 
   -- the list with one more ask, that wasn't asked
   more_decisions : (ask : Ask) (b : Bool) → IsAskOf v ask → AllByRecursion (λ (e : Decision). ask ≡ e.0 → ⊥) v.list → AreDecisions (record v { list = (ask, b) ∷ v.list })
-  more_decisions ask b h new = record { orders = kept.decisions.orders; yard = kept.decisions.yard; asks = (h, kept.decisions.asks); once = (new, kept.decisions.once) }
+  more_decisions ask b h new = record { orders = kept.decisions.orders; yard = kept.decisions.yard; asks = (h, kept.decisions.asks); once = (fresh_from ask v.list new, kept.decisions.once) }
 
   -- a decision that the relations say already
   pub kept_said : (ask : Ask) (b : Bool) → IsAskOf v ask → relation_at r (first_node v.yard ask) (second_node v.yard ask) ≡ relation_of b → (Contains v.list (ask, b) → ⊥) → IsKept (record v { list = (ask, b) ∷ v.list }) r

@@ -1,5 +1,5 @@
 -- Decisions on different asks are no more than there are asks.
-use Rattle.std.proofs.Common.{◌≡◌, ℕ, ◌+◌, ◌*◌, ◌<◌, ◌≤◌, true, false, eqb, List, [], ◌∷◌, map, length, sym, ap, ap₂, ◌∙◌, subst, inl, inr, arith, reverse, ◌/◌, ◌%◌}
+use Rattle.std.proofs.Common.{◌≡◌, ℕ, ◌+◌, ◌*◌, ◌<◌, ◌≤◌, true, false, eqb, List, [], ◌∷◌, map, length, sym, ap, ap₂, ◌∙◌, subst, inl, inr, arith, reverse, ◌/◌, ◌%◌, suc}
 use Rattle.std.proofs.lemmas.List.{length-map, length-reverse}
 use Rattle.std.specs.List.{AllByRecursion, IsDistinct, list_any}
 use Rattle.std.proofs.lemmas.Nat.{div-mul-add, mod-mul-add, mul-add-lt}
@@ -8,7 +8,8 @@ use Rattle.std.proofs.lemmas.Map.Steps.{length-le_from_distinct_below}
 use Rattle.mill_model.specs.declared.ask.Ask.{Ask}
 use Rattle.mill_model.specs.declared.ask.Ask.TheVariants.{Pair, Put}
 use Rattle.mill_model.specs.Decisions.{Decision}
-use Rattle.slab_decide.specs.Decided.{Decisions, IsAskOf, AreDecisions, AreAskedOnce}
+use Rattle.mill_model.specs.Trees.{AreAskedOnce, IsFresh}
+use Rattle.slab_decide.specs.Decided.{Decisions, IsAskOf, AreDecisions}
 
 -- an ask as a place in a table: the order that it asks of, and the node that it asks about
 abbrev row : Ask → ℕ
@@ -47,6 +48,10 @@ one_place v p q h g e =
 abbrev places : Decisions → List Decision → List ℕ
 places v list = map (λ (d : Decision). place v d.0) list
 
+fresh_to : (ask : Ask) (list : List Decision) → IsFresh ask list → AllByRecursion (λ (e : Decision). ask ≡ e.0 → ⊥) list
+fresh_to ask [] fresh = tt
+fresh_to ask (d ∷ list) fresh = (λ e. fresh (0, omega arith, sym e), fresh_to ask list (λ found. fresh (suc found.0, omega (arith, found.1), found.2)))
+
 other_places : (v : Decisions) (ask : Ask) (list : List Decision) → IsAskOf v ask → AllByRecursion (λ (d : Decision). IsAskOf v d.0) list → AllByRecursion (λ (e : Decision). ask ≡ e.0 → ⊥) list → AllByRecursion (λ k. eqb (place v ask) k ≡ false) (places v list)
 other_places v ask [] h asks new = tt
 other_places v ask (d ∷ list) h asks new = (ne_eqb (place v ask) (place v d.0) (λ e. new.0 (one_place v ask d.0 h asks.0 e)), other_places v ask list h asks.1 new.1)
@@ -54,7 +59,7 @@ other_places v ask (d ∷ list) h asks new = (ne_eqb (place v ask) (place v d.0)
 different_places : (v : Decisions) (list : List Decision) → AllByRecursion (λ (d : Decision). IsAskOf v d.0) list → AreAskedOnce list → IsDistinct eqb (places v list)
 unfolding IsDistinct
 different_places v [] asks once = tt
-different_places v (d ∷ list) asks once = (other_places v d.0 list asks.0 asks.1 once.0, different_places v list asks.1 once.1)
+different_places v (d ∷ list) asks once = (other_places v d.0 list asks.0 asks.1 (fresh_to d.0 list once.0), different_places v list asks.1 once.1)
 
 places_below : (v : Decisions) (list : List Decision) → AllByRecursion (λ (d : Decision). IsAskOf v d.0) list → (k : ℕ) → list_any (eqb k) (places v list) ≡ true → k < (v.yard + v.orders) * v.orders
 places_below v [] asks k e = cc

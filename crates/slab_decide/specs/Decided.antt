@@ -1,12 +1,11 @@
 -- Decisions as contracts see them, and what follows from them.
-use Rattle.std.specs.Prelude.{◌≡◌, ℕ, ◌<◌, ◌≤◌, ◌⊎◌, Bool, true, false, List, [], ◌∷◌, Contains, length}
+use Rattle.std.specs.Prelude.{◌≡◌, ℕ, ◌<◌, ◌≤◌, ◌⊎◌, Bool, true, false, List, ◌∷◌, Contains, length}
 use Rattle.std.specs.List.{AllByRecursion}
 use Rattle.mill_model.specs.declared.ask.Ask.{Ask}
 use Rattle.mill_model.specs.declared.ask.Ask.TheVariants.{Pair, Put}
-use Rattle.mill_model.specs.declared.kind.Kind.{Kind}
-use Rattle.mill_model.specs.declared.kind.Kind.TheVariants.{New, Old}
 use Rattle.mill_model.specs.Mill.{Mill}
-use Rattle.mill_model.specs.Decisions.{Decision}
+use Rattle.mill_model.specs.Decisions.{Decision, IsAskAmong}
+use Rattle.mill_model.specs.Trees.{AreAskedOnce}
 use Rattle.mill_model.specs.Assignments.{Assignment, Agrees, Follows, AreSettled}
 
 -- decisions on so many orders and surplus slabs, the latest first
@@ -17,13 +16,7 @@ pub record Decisions : Type 0 where
 
 -- the ask names orders and a surplus slab that there are
 abbrev pub IsAskOf : Decisions → Ask → Type 0
-IsAskOf v (Pair i j) = (i < j) × (j < v.orders)
-IsAskOf v (Put o s) = (o < v.orders) × (s < v.yard)
-
--- no ask is decided twice
-abbrev pub AreAskedOnce : List Decision → Type 0
-AreAskedOnce [] = Unit {0}
-AreAskedOnce (d ∷ list) = AllByRecursion (λ (e : Decision). d.0 ≡ e.0 → ⊥) list × AreAskedOnce list
+IsAskOf v ask = IsAskAmong v.orders v.yard ask
 
 -- what each list of decisions keeps
 pub record AreDecisions (v : Decisions) : Type 0 where

@@ -2,7 +2,7 @@ use Rattle.std.proofs.Common.{◌≡◌, ◌<◌, false, length, get_or, reverse
 use Rattle.std.specs.Prelude.{Contains}
 use Rattle.std.proofs.lemmas.List.{get_or_read}
 use Rattle.price_check.specs.Path.{Trail, ArePath, asks_of}
-use Rattle.price_check.specs.Questions.{IsAskOf}
+use Rattle.mill_model.specs.Decisions.{IsAskAmong}
 use Rattle.price_check.specs.Marks.{place_of}
 use Rattle.price_check.proofs.Marks.{marked_where_asked, asked_where_marked, ArePath-from_marks}
 use Rattle.price_check.proofs.Trails.{place_within}
@@ -10,7 +10,7 @@ use Rattle.price_check.proofs.trail.Trail.stands.Goals as goal
 
 pub index-requires : goal.index-requires
 index-requires c =
-    let asked : IsAskOf c.self.inside.orders c.self.inside.slabs c.args.ask = subst (λ (p : Trail). IsAskOf p.orders p.slabs c.args.ask) (sym c.self.view_is) c.requires in
+    let asked : IsAskAmong c.self.inside.orders c.self.inside.slabs c.args.ask = subst (λ (p : Trail). IsAskAmong p.orders p.slabs c.args.ask) (sym c.self.view_is) c.requires in
     omega (arith, place_within c.self.inside.orders c.self.inside.slabs (reverse c.self.inside.decisions.items) c.self.inside.marks.items _ c.self.invariant c.args.ask asked, c.place_of.ensures)
 
 pub returns-clause-stands : goal.returns-clause-stands
@@ -18,7 +18,7 @@ returns-clause-stands c =
     let n = c.self.inside.orders in
     let s = c.self.inside.slabs in
     let marks = c.self.inside.marks.items in
-    let asked : IsAskOf c.self.inside.orders c.self.inside.slabs c.args.ask = subst (λ (p : Trail). IsAskOf p.orders p.slabs c.args.ask) (sym c.self.view_is) c.requires in
+    let asked : IsAskAmong c.self.inside.orders c.self.inside.slabs c.args.ask = subst (λ (p : Trail). IsAskAmong p.orders p.slabs c.args.ask) (sym c.self.view_is) c.requires in
     let within : place_of c.self.inside.orders c.self.inside.slabs c.args.ask < length c.self.inside.marks.items = place_within c.self.inside.orders c.self.inside.slabs (reverse c.self.inside.decisions.items) c.self.inside.marks.items _ c.self.invariant c.args.ask asked in
     let mark : c.index.result.now ≡ get_or c.self.inside.marks.items (place_of c.self.inside.orders c.self.inside.slabs c.args.ask) false =
     get_or_read c.self.inside.marks.items (place_of c.self.inside.orders c.self.inside.slabs c.args.ask) c.index.result.now within (rw c.place_of.ensures at c.index.ensures) false in (

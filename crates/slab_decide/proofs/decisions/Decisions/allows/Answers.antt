@@ -1,4 +1,4 @@
-use Rattle.std.proofs.Common.{◌≡◌, ℕ, ◌+◌, true, false, List, reverse, sym, subst, ◌∙◌, arith, rules}
+use Rattle.std.proofs.Common.{◌≡◌, ℕ, true, false, List, reverse, sym, subst, ◌∙◌, rules}
 use Rattle.mill_model.specs.Columns.{Column, Rises}
 use Rattle.mill_model.specs.Decisions.{Decision, column_agrees}
 use Rattle.slab_decide.specs.Decided.{Decisions}
