@@ -22,7 +22,7 @@ pub(crate) struct Leaf<'a> {
     pub trail: &'a Trail,
     pub quote: &'a Quote,
     pub groups: &'a Groups,
-    /// For each two orders, whether no column has both.
+    /// For each two heads, whether a decision keeps their groups apart: then no column that agrees has both.
     pub apart: &'a [bool],
     /// For each colour, the sum of the positive gains of its groups.
     pub plus: &'a [i128],

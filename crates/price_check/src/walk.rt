@@ -24,7 +24,7 @@ pub(crate) struct Hunt<'a> {
     pub trail: &'a Trail,
     pub quote: &'a Quote,
     pub groups: &'a Groups,
-    /// For each two orders, whether no column has both.
+    /// For each two heads, whether a decision keeps their groups apart: then no column that agrees has both.
     pub apart: &'a [bool],
     pub first: u16,
     pub second: u16,

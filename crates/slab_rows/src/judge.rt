@@ -9,6 +9,7 @@ fn a_plan_is_judged(rt: HostRuntime) -> Result<(), Fail> {
         let ended = run_judged(rt.alloc(), row)?;
         assert_eq!(rt; ended.said.as_slice(), row.3.as_bytes(), "{}", row.1);
         assert_eq!(rt; ended.status, row.2, "{}", row.1);
+        assert_eq!(rt; ended.faults, 0);
     }
     Ok(())
 }

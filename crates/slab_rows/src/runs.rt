@@ -13,11 +13,12 @@ use slab_desk::MemDesk;
 use slab_front::run;
 use std::alloc::{AllocError, Global};
 
-/// The status with which a run ended, and what it said.
+/// The status with which a run ended, what it said, and how often the desk failed.
 #[derive(Debug, Drop)]
 pub struct Ended {
     pub status: u8,
     pub said: Vec<u8>,
+    pub faults: u64,
 }
 
 /// Runs the words of a row.
@@ -54,7 +55,11 @@ fn run_files(alloc: Global, words: &str, orders: &[u8], plan: &[u8]) -> Result<E
     let mut desk = desk_of(alloc, orders, plan)?;
     let status = run_words(alloc, words, &mut desk)?;
     let said = Vec::from_slice(alloc, desk.said())?;
-    Ok(Ended { status, said })
+    Ok(Ended {
+        status,
+        said,
+        faults: desk.faults(),
+    })
 }
 
 /// Runs the program on the words of a text, and answers its status.

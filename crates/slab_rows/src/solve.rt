@@ -46,6 +46,7 @@ fn an_order_file_has_a_first_fault(rt: HostRuntime) -> Result<(), Fail> {
         let ended = run_refused(rt.alloc(), row)?;
         assert_eq!(rt; ended.said.as_slice(), row.1.as_bytes());
         assert_eq!(rt; ended.status, 2, "{}", row.1);
+        assert_eq!(rt; ended.faults, 0);
     }
     Ok(())
 }
