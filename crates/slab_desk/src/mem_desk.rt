@@ -196,21 +196,17 @@ impl Desk for MemDesk {
     {
         let number = self.calls.count(Act::Create);
         if !fails(&self.failing, Act::Create, number) {
-            match position(&self.files, name) {
-                Some(place) => {
-                    self.files[place].bytes.clear();
-                    self.target = Some(place);
+            if let Some(place) = position(&self.files, name) {
+                self.files[place].bytes.clear();
+                self.target = Some(place);
+                return Ok(());
+            }
+            if name.len() <= self.room {
+                if let Some(mut file) = self.spare.take() {
+                    file.name.push_str(name).unwrap();
+                    self.target = Some(self.files.len());
+                    self.files.push(file).unwrap();
                     return Ok(());
-                }
-                None => {
-                    if name.len() <= self.room {
-                        if let Some(mut file) = self.spare.take() {
-                            file.name.push_str(name).unwrap();
-                            self.target = Some(self.files.len());
-                            self.files.push(file).unwrap();
-                            return Ok(());
-                        }
-                    }
                 }
             }
         }

@@ -24,7 +24,7 @@ returns-in-Some-clause-creates c = ap (λ (s : DeskState). s.told) (returns-in-S
 pub returns-in-Some-take-clause-ok : goal.returns-in-Some-take-clause-ok
 returns-in-Some-take-clause-ok c =
     let files = c.self.inside.files.items in
-    let none : get (files_of files) c.args.name.now ≡ None = subst (λ (fs : List MemFile). get (files_of fs) c.args.name.now ≡ None) c.deref-then-not-fails.ensures.value c.in-None.ensures.none in
+    let none : get (files_of files) c.args.name.now ≡ None = subst (λ (fs : List MemFile). get (files_of fs) c.args.name.now ≡ None) c.deref-then-not-fails.ensures.value c.in_default.ensures.none in
     let spare : IsSpare c.self.inside.room c.in-Some-take.file = subst (λ (o : Option MemFile). IfSome o (IsSpare c.self.inside.room)) (sym c.in-Some-take.ensures.value) c.self.invariant.spare in
     let len : c.len.result ≡ length files = grind (arith, common_steps, c.len.ensures) in
     let file : MemFile = record { name = c.push_str.new.self; bytes = c.in-Some-take.file.bytes } in
