@@ -1,15 +1,32 @@
 -- The least size that holds a load, size by size.
 use Rattle.std.proofs.Common.{◌≡◌, ℕ, ◌<◌, ◌≤◌, min, List, [], ◌∷◌, ◌++◌, length, get_or, slice_index_or, Contains, Option, Some, None, MatchOption, sym, ap, ◌∙◌, subst, inl, inr, arith, length-append}
 use Rattle.std.proofs.Math.Seq.{get_or-append_seam}
-use Rattle.std.proofs.lemmas.List.{get_or_append_left}
-use Rattle.std.proofs.lemmas.List.Elements.{Contains-append_left, Contains-push, Contains-push_cases}
+use Rattle.std.proofs.lemmas.List.{get_or_append_left, get_or_default}
+use Rattle.std.proofs.lemmas.List.Elements.{All-contains, Contains-append_left, Contains-push, Contains-push_cases}
 use Rattle.std.proofs.lemmas.Bool.{cases_lt}
 use Rattle.mill_model.specs.declared.kind.Kind.{Kind}
 use Rattle.mill_model.specs.declared.kind.Kind.TheVariants.{New}
 use Rattle.mill_model.specs.Mill.{Mill}
 use Rattle.mill_model.specs.Columns.{load, colours_of}
 use Rattle.mill_model.specs.Plans.{places_of}
-use Rattle.exhaustive_front.specs.Placements.{Holds, IsLeastSize, AreLeast, IsLeastFit}
+use Rattle.mill_model.specs.LeastSizes.{IsAnswer}
+use Rattle.exhaustive_front.specs.Placements.{Holds, IsLeastSize, AreLeast}
+
+-- the same as the least size, by what the list contains
+abbrev pub IsLeastFit : List ℕ → ℕ → Option ℕ → Type 0
+IsLeastFit sizes load None = (size : ℕ) → Contains sizes size → size < load
+IsLeastFit sizes load (Some best) = Contains sizes best × (load ≤ best) × ((size : ℕ) → Contains sizes size → load ≤ size → best ≤ size)
+
+listed : (sizes : List ℕ) (k d : ℕ) → k < length sizes → Contains sizes (get_or sizes k d)
+listed sizes k d h = (k, h, get_or_default sizes k (get_or sizes k d) d h)
+
+pub answer_from_fit : (sizes : List ℕ) (load : ℕ) (o : Option ℕ) → IsLeastFit sizes load o → IsAnswer sizes load o
+answer_from_fit sizes load None f = record { some = tt; none = λ k d h. f (get_or sizes k d) (listed sizes k d h) }
+answer_from_fit sizes load (Some best) f = record { some = record { listed = f.0; holds = f.1; least = λ k d h. f.2 (get_or sizes k d) (listed sizes k d h) }; none = tt }
+
+pub fit_from_answer : (sizes : List ℕ) (load : ℕ) (o : Option ℕ) → IsAnswer sizes load o → IsLeastFit sizes load o
+fit_from_answer sizes load None a = λ size c. All-contains (λ x. x < load) sizes size a.none c
+fit_from_answer sizes load (Some best) a = (a.some.listed, a.some.holds, λ size c. All-contains (λ x. load ≤ x → best ≤ x) sizes size a.some.least c)
 
 pub fit_none : (load : ℕ) → IsLeastFit [] load None
 fit_none load size c = absurd (omega (arith, c.1))

@@ -27,8 +27,3 @@ pub record IsLeastSize (m : Mill) (orders : List ℕ) (size : ℕ) : Type 0 wher
 -- each slab is new, and of the least size for what lies on it
 abbrev pub AreLeast : Mill → List ℕ → List Kind → Type 0
 AreLeast m place kinds = (k : ℕ) → k < length kinds → (size : ℕ) × (slice_index_or kinds k (New 0) ≡ New size) × IsLeastSize m (places_of k 0 place) size
-
--- the least of the sizes that is at least the load, where there is one
-abbrev pub IsLeastFit : List ℕ → ℕ → Option ℕ → Type 0
-IsLeastFit sizes load None = (size : ℕ) → Contains sizes size → size < load
-IsLeastFit sizes load (Some best) = Contains sizes best × (load ≤ best) × ((size : ℕ) → Contains sizes size → load ≤ size → best ≤ size)

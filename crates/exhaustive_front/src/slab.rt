@@ -1,7 +1,7 @@
 ghost use Rattle.std.specs.Prelude.{◌≡◌, ◌≤◌, length, map, min, MatchOption};
 ghost use Rattle.mill_model.specs.Plans.{places_of};
 ghost use Rattle.mill_model.specs.Columns.{has, load, colours_of, order_at};
-ghost use Rattle.exhaustive_front.specs.Placements.{IsLeastFit};
+ghost use Rattle.mill_model.specs.LeastSizes.{IsAnswer};
 
 use mill_model::Mill;
 
@@ -50,7 +50,7 @@ fn has_colour(mill: &Mill, place: &[u16], slab: u16, colour: u16) -> bool
 
 /// The least listed size that is at least this load, where there is one.
 pub fn size_for(mill: &Mill, load: u32) -> Option<u16>
-    ensures { IsLeastFit mill.now.sizes load result }
+    ensures { IsAnswer mill.now.sizes load result }
 {
     let mut best = None;
     for size in mill.sizes() {

@@ -1,7 +1,6 @@
 use Rattle.std.proofs.Common.{◌≡◌, ◌<◌, ◌∷◌, [], ◌++◌, length, get_or, take, sym, subst, ◌∙◌, arith, Option, ℕ, List}
 use Rattle.std.proofs.lemmas.List.{take_more, take_all}
-use Rattle.exhaustive_front.specs.Placements.{IsLeastFit}
-use Rattle.exhaustive_front.proofs.Fits.{fit_small, fit_more}
+use Rattle.exhaustive_front.proofs.Fits.{IsLeastFit, answer_from_fit, fit_small, fit_more}
 use Rattle.exhaustive_front.proofs.slab.size_for.Goals as goal
 use Rattle.exhaustive_front.proofs.slab.size_for.Goals.{then-load-from, else-load-from}
 
@@ -23,4 +22,4 @@ pub returns : goal.returns
 returns c =
     let e : take c.loop-size.size-index c.sizes-size-items.result.now ≡ c.args.mill.now.sizes =
     take_all c.loop-size.size-index c.sizes-size-items.result.now (omega arith) ∙ c.sizes-size-items.ensures.value in
-    subst (λ (ys : List ℕ). IsLeastFit ys c.args.load c.loop-size.best) e c.loop-size.invariant
+    answer_from_fit c.args.mill.now.sizes c.args.load c.loop-size.best (subst (λ (ys : List ℕ). IsLeastFit ys c.args.load c.loop-size.best) e c.loop-size.invariant)

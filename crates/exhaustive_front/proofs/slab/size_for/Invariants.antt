@@ -1,5 +1,5 @@
 use Rattle.std.proofs.Common.{take}
-use Rattle.exhaustive_front.specs.Placements.{IsLeastFit}
+use Rattle.exhaustive_front.proofs.Fits.{IsLeastFit}
 use Rattle.exhaustive_front.proofs.slab.size_for.Given as goal
 
 abbrev pub invariant-loop-size : goal.invariant-loop-size
