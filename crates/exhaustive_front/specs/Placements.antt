@@ -1,5 +1,5 @@
 -- Places of the first orders, with slabs numbered by their least order, and the least new slab for what lies on one.
-use Rattle.std.specs.Prelude.{◌≡◌, ℕ, suc, ◌<◌, ◌≤◌, eqb, nat_lt, List, length, slice_index_or, Option, Some, None}
+use Rattle.std.specs.Prelude.{◌≡◌, ℕ, suc, ◌<◌, ◌≤◌, eqb, nat_lt, List, length, slice_index_or}
 use Rattle.std.specs.List.{position_or_len, Contains}
 use Rattle.mill_model.specs.declared.kind.Kind.{Kind}
 use Rattle.mill_model.specs.declared.kind.Kind.TheVariants.{New}

@@ -1,8 +1,8 @@
 -- Points of loss and count, each with a plan that attains it.
-use Rattle.std.specs.Prelude.{◌≡◌, ◌≤◌, Bool, ◌&&◌, nat_le, List, map, All}
+use Rattle.std.specs.Prelude.{◌≤◌, Bool, ◌&&◌, nat_le, List, All}
 use Rattle.mill_model.specs.declared.sums.Sums.{Sums}
 use Rattle.mill_model.specs.Mill.{Mill}
-use Rattle.mill_model.specs.Plans.{Plan, IsLegal, IsInOrder, sums_of}
+use Rattle.mill_model.specs.Plans.{Plan}
 use Rattle.mill_model.specs.Fronts.{LossesRise, CountsFall, Covers, IsPoint, pairs_of}
 
 -- points of the mill, of rising loss and falling count
