@@ -48,7 +48,7 @@ fn run<R: Env + Files + AllocGlobal + Print>(rt: &R) -> io::Result<bool> {
     }
     println!(rt; "usage: bench_parts master|lines|leaves SIZE COUNT TIMES SEED")?;
     println!(rt;
-        "       bench_parts price|price_none|pair|follows|allows|pool|leaf FILE TIMES SEED"
+        "       bench_parts price|price_none|pair|follows|allows|pool|leaf|leaf_none FILE TIMES SEED"
     )?;
     Ok(false)
 }
@@ -92,7 +92,7 @@ fn run_on_mill<R: Files + AllocGlobal + Print>(rt: &R, work: &MillWork<'_>) -> i
             run_decisions(rt, mill.orders().len() as u16, work)?
         }
         MillPart::Pool => run_pool(rt, &mill, work)?,
-        MillPart::Leaf => run_leaf(rt, &mill, work)?,
+        MillPart::Leaf | MillPart::LeafNone => run_leaf(rt, &mill, work)?,
     }
     Ok(true)
 }

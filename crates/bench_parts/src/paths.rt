@@ -1,9 +1,10 @@
 //! The test of a leaf at the end of a random path.
 
-ghost use Rattle.std.specs.Prelude.{◌≡◌, ◌≤◌, [], length};
+ghost use Rattle.std.specs.Prelude.{◌≡◌, ◌<◌, ◌≤◌, [], length};
 
+use crate::pricing::{largest_size, low_share};
 use crate::random::Random;
-use crate::words::MillWork;
+use crate::words::{MillPart, MillWork};
 use cert_view::{CertView, Line};
 use mill_model::{Ask, Limits, Mill};
 use price_check::{Bad, Path};
@@ -55,7 +56,7 @@ pub fn test_often(alloc: Global, mill: &Mill, work: &MillWork<'_>) -> Result<Sai
     'rounds: for _ in 0..work.times {
         path.clear();
         extend_path(&mut path, orders, &mut random);
-        let line = random_leaf(alloc, orders, &mut random)?;
+        let line = random_leaf(alloc, mill, work.part, &mut random)?;
         test_leaf(mill, &mut path, &line, &mut said);
     }
     Ok(said)
@@ -76,15 +77,32 @@ fn extend_path(path: &mut Path, orders: u16, random: &mut Random)
     }
 }
 
-/// The line of a leaf for so many orders and no yard: one unit of loss costs 1, a new slab 10, and an order is worth 0 to 4.
-fn random_leaf(alloc: Global, orders: u16, random: &mut Random) -> Result<Vec<u8>, AllocError> {
+/// The line of a leaf for a mill with no yard: one unit of loss costs 1 and a new slab 10.
+fn random_leaf(
+    alloc: Global,
+    mill: &Mill,
+    part: MillPart,
+    random: &mut Random,
+) -> Result<Vec<u8>, AllocError> {
+    let largest = largest_size(mill);
     let mut line = b"leaf 1 10".to_vec(alloc)?;
-    'orders: for _ in 0..orders {
+    'orders: for order in mill.orders() {
         line.push(b' ')?;
-        line.push(b'0' + random.below(5) as u8)?;
+        line.push(b'0' + random_worth(part, order.weight, largest, random))?;
     }
     line.push(b'\n')?;
     Ok(line)
+}
+
+/// What an order is worth: 0 to 4, or where no column is to exceed its share of 10 on the largest slab, or up to 2 less.
+fn random_worth(part: MillPart, weight: u16, largest: u16, random: &mut Random) -> u8
+    requires { 0 < largest }
+    ensures { result ≤ 9 }
+{
+    if part == MillPart::LeafNone {
+        return low_share(10, weight, largest, random).min(9) as u8;
+    }
+    random.below(5) as u8
 }
 
 fn test_leaf(mill: &Mill, path: &mut Path, line: &[u8], said: &mut Said)

@@ -60,7 +60,7 @@ pub fn price_columns(alloc: Global, mill: &Mill, work: &MillWork<'_>) -> Result<
     Ok(priced)
 }
 
-/// Prices of a part: low ones where few columns exceed.
+/// Prices of a part: low ones where no column is to exceed.
 fn prices_for(
     alloc: Global,
     mill: &Mill,
@@ -78,8 +78,8 @@ fn prices_for(
     random_prices(alloc, mill, random)
 }
 
-/// Low prices, where no column exceeds: of loss 1, of a new slab 100, and of an order its share of 100 by weight on the
-/// largest slab, or up to 2 less.
+/// Low prices, where no column exceeds: of loss 1, of a new slab 100, and of an order its share of 100 on the largest slab,
+/// or up to 2 less.
 fn low_prices(alloc: Global, mill: &Mill, random: &mut Random) -> Result<Prices, AllocError>
     requires { mill.now.yard ≡ [] }
     ensures pi { IfOk result (λ prices. length prices.pi ≡ length mill.now.orders) }
@@ -89,14 +89,13 @@ fn low_prices(alloc: Global, mill: &Mill, random: &mut Random) -> Result<Prices,
     let largest = largest_size(mill);
     let mut pi = Vec::new(alloc);
     'orders: for order in mill.orders() {
-        let share = u32::from(order.weight) * 100 / u32::from(largest);
-        pi.push(low_price(share, random))?;
+        pi.push(i64::from(low_share(100, order.weight, largest, random)))?;
     }
     Ok(Prices::new(1, 100, pi, Vec::new(alloc)))
 }
 
 /// The largest listed size, and 1 where none is listed.
-fn largest_size(mill: &Mill) -> u16
+pub fn largest_size(mill: &Mill) -> u16
     ensures { 0 < result }
 {
     let mut largest = 1;
@@ -106,11 +105,12 @@ fn largest_size(mill: &Mill) -> u16
     largest.max(1)
 }
 
-/// A share, or up to 2 less.
-fn low_price(share: u32, random: &mut Random) -> i64
-    ensures { IsPrice result }
+/// An order's share of a slab's price, by its weight on the slab, or up to 2 less.
+pub fn low_share(price: u16, weight: u16, size: u16, random: &mut Random) -> u32
+    requires { 0 < size }
 {
-    i64::from(share.saturating_sub(u32::from(random.below(3))))
+    let share = u32::from(price) * u32::from(weight) / u32::from(size);
+    share.saturating_sub(u32::from(random.below(3)))
 }
 
 /// Random prices: of loss 1 to 3, of a new slab 0 to 20, and of an order 0 to three times its weight.

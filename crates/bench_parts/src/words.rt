@@ -31,7 +31,7 @@ pub struct Work {
 pub enum MillPart {
     /// Pricing, at random prices.
     Price,
-    /// Pricing, at low prices, where few columns exceed.
+    /// Pricing, at low prices, where no column exceeds.
     PriceNone,
     /// Random decisions of pairs and puts.
     Pair,
@@ -43,6 +43,8 @@ pub enum MillPart {
     Pool,
     /// The test of a leaf, at random prices under random decisions.
     Leaf,
+    /// The test of a leaf, at low prices, where no column exceeds, under random decisions.
+    LeafNone,
 }
 
 /// A part, and the file of the mill that it works on.
@@ -108,6 +110,7 @@ fn mill_part_of(word: &str) -> Option<MillPart> {
         "allows" => Some(MillPart::Allows),
         "pool" => Some(MillPart::Pool),
         "leaf" => Some(MillPart::Leaf),
+        "leaf_none" => Some(MillPart::LeafNone),
         _ => None,
     }
 }

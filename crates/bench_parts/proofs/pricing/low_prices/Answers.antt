@@ -6,6 +6,6 @@ use Rattle.bench_parts.proofs.pricing.low_prices.Goals as goal
 
 pub orders-preserved : goal.orders-preserved
 orders-preserved c = record {
-  prices = rw c.in_ok-push.ensures.items (All-push IsPrice _ _ c.orders.invariant.prices (omega (arith, ints, c.low_price.ensures.0), omega (arith, ints, c.low_price.ensures.1)));
+  prices = rw c.in_ok-push.ensures.items (All-push IsPrice _ _ c.orders.invariant.prices (omega (arith, ints), omega (arith, ints)));
   count = search rules;
 }
