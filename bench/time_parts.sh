@@ -58,28 +58,50 @@ for size in 10 50 111 250; do
     done
 done
 
-echo "columns of greatest excess at random prices, each time under no decision and under 20 random ones:"
-printf '%-16s %6s %8s %9s  %s\n' mill times seconds calls/s said
-for work in "csplib111.txt 500" "few30c8y_0.ord 5000" "few50c8y_0.ord 1000"; do
-    read -r file times <<<"$work"
-    { read -r s; read -r said; } < <(extra price "$file" "$times")
-    printf '%-16s %6s %8s %9s  %s\n' "$file" "$times" "$s" "$(rate $((2 * times)) "$s")" "$said"
-done
+# calls PART TIMES SAID: how many calls a run made
+calls() {
+    case "$1" in
+        price | price_none) echo $((2 * $2)) ;;
+        pair) echo $(($(field "$3" 2) + $(field "$3" 4))) ;;
+        follows) field "$3" 2 ;;
+        allows) echo $(($(field "$3" 2) + $(field "$3" 6))) ;;
+        leaf | leaf_none) echo $(($(field "$3" 2) + $(field "$3" 4) + $(field "$3" 6))) ;;
+        pool) echo $((2 * $(field "$3" 4))) ;;
+    esac
+}
 
-echo "random decisions, up to 100 a round, each after first_open, then follows of each pair of orders and allows of 8 columns:"
-printf '%-16s %6s %8s %12s %12s  %s\n' mill times seconds decisions/s calls/s said
-for work in "csplib111.txt 500" "few30c8y_0.ord 5000"; do
-    read -r file times <<<"$work"
-    { read -r s; read -r said; } < <(extra decisions "$file" "$times")
-    decided=$(($(field "$said" 2) + $(field "$said" 4)))
-    calls=$((2 * decided + $(field "$said" 6) + $(field "$said" 10)))
-    printf '%-16s %6s %8s %12s %12s  %s\n' "$file" "$times" "$s" "$(rate "$decided" "$s")" "$(rate "$calls" "$s")" "$said"
-done
+# on_mills PART "FILE TIMES"..: a table of the part's figures on these mills
+on_mills() {
+    local part=$1 work file times s said
+    shift
+    printf '%-16s %6s %8s %12s  %s\n' mill times seconds calls/s said
+    for work in "$@"; do
+        read -r file times <<<"$work"
+        { read -r s; read -r said; } < <(extra "$part" "$file" "$times")
+        printf '%-16s %6s %8s %12s  %s\n' "$file" "$times" "$s" "$(rate "$(calls "$part" "$times" "$said")" "$s")" "$said"
+    done
+}
+
+echo "columns of greatest excess at random prices, each time under no decision and under 20 random ones:"
+on_mills price "csplib111.txt 500" "few30c8y_0.ord 5000" "few50c8y_0.ord 2500"
+
+echo "the same at low prices, where no column exceeds:"
+on_mills price_none "csplib111.txt 500" "few30c8y_0.ord 5000" "few50c8y_0.ord 2500"
+
+echo "random decisions of pairs and puts, 100 a round, each round from nothing:"
+on_mills pair "csplib111.txt 300" "few30c8y_0.ord 5000" "few50c8y_0.ord 1500"
+
+echo "what follows of each pair of orders, under 50 random decisions:"
+on_mills follows "csplib111.txt 60000" "few30c8y_0.ord 60000" "few50c8y_0.ord 60000"
+
+echo "random columns of two orders and of eight in turn, 1000 a round, allowed under 50 random decisions:"
+on_mills allows "csplib111.txt 30000" "few30c8y_0.ord 30000" "few50c8y_0.ord 30000"
+
+echo "leaves at random prices, each under 20 random decisions:"
+on_mills leaf "csplib111.txt 20000" "few30c8y_0.ord 40000" "few50c8y_0.ord 40000"
+
+echo "the same at low prices, where no column exceeds:"
+on_mills leaf_none "csplib111.txt 500" "few30c8y_0.ord 20000" "few50c8y_0.ord 5000"
 
 echo "pools of random columns of two orders, 1000 drawn for each, added and found:"
-printf '%-16s %6s %8s %12s  %s\n' mill times seconds calls/s said
-for work in "csplib111.txt 10000" "few30c8y_0.ord 10000"; do
-    read -r file times <<<"$work"
-    { read -r s; read -r said; } < <(extra pool "$file" "$times")
-    printf '%-16s %6s %8s %12s  %s\n' "$file" "$times" "$s" "$(rate $((2 * $(field "$said" 4))) "$s")" "$said"
-done
+on_mills pool "csplib111.txt 10000" "few30c8y_0.ord 10000"

@@ -4,7 +4,7 @@ ghost use Rattle.std.specs.Prelude.{◌≡◌, ◌+◌, ◌^◌, ◌<◌, ◌≤
 ghost use Rattle.mill_model.specs.Prices.{IsPrice};
 
 use crate::random::Random;
-use crate::words::MillWork;
+use crate::words::{MillPart, MillWork};
 use loss_table::LossTable;
 use mill_model::{Mill, Prices};
 use slab_counter::raised;
@@ -51,13 +51,66 @@ pub fn price_columns(alloc: Global, mill: &Mill, work: &MillWork<'_>) -> Result<
     let table = LossTable::new(alloc, mill)?;
     let mut decisions = Decisions::new(alloc, mill.orders().len() as u16, 0)?;
     'rounds: for _ in 0..work.times {
-        let prices = random_prices(alloc, mill, &mut random)?;
+        let prices = prices_for(alloc, mill, work.part, &mut random)?;
         decisions.reset();
         priced.note(&worst(alloc, mill, &table, &decisions, &prices)?);
         decide_pairs(&mut decisions, mill.orders().len() as u16, &mut random);
         priced.note(&worst(alloc, mill, &table, &decisions, &prices)?);
     }
     Ok(priced)
+}
+
+/// Prices of a part: low ones where no column is to exceed.
+fn prices_for(
+    alloc: Global,
+    mill: &Mill,
+    part: MillPart,
+    random: &mut Random,
+) -> Result<Prices, AllocError>
+    requires { mill.now.yard ≡ [] }
+    ensures pi { IfOk result (λ prices. length prices.pi ≡ length mill.now.orders) }
+    ensures sigma { IfOk result (λ prices. length prices.sigma ≡ length mill.now.yard) }
+    ensures lambda { IfOk result (λ prices. pos 0 ≤ℤ prices.lambda) }
+{
+    if part == MillPart::PriceNone {
+        return low_prices(alloc, mill, random);
+    }
+    random_prices(alloc, mill, random)
+}
+
+/// Low prices, where no column exceeds: of loss 1, of a new slab 100, and of an order its share of 100 on the largest slab,
+/// or up to 2 less.
+fn low_prices(alloc: Global, mill: &Mill, random: &mut Random) -> Result<Prices, AllocError>
+    requires { mill.now.yard ≡ [] }
+    ensures pi { IfOk result (λ prices. length prices.pi ≡ length mill.now.orders) }
+    ensures sigma { IfOk result (λ prices. length prices.sigma ≡ length mill.now.yard) }
+    ensures lambda { IfOk result (λ prices. pos 0 ≤ℤ prices.lambda) }
+{
+    let largest = largest_size(mill);
+    let mut pi = Vec::new(alloc);
+    'orders: for order in mill.orders() {
+        pi.push(i64::from(low_share(100, order.weight, largest, random)))?;
+    }
+    Ok(Prices::new(1, 100, pi, Vec::new(alloc)))
+}
+
+/// The largest listed size, and 1 where none is listed.
+pub fn largest_size(mill: &Mill) -> u16
+    ensures { 0 < result }
+{
+    let mut largest = 1;
+    for &size in mill.sizes() {
+        largest = size.max(largest);
+    }
+    largest.max(1)
+}
+
+/// An order's share of a slab's price, by its weight on the slab, or up to 2 less.
+pub fn low_share(price: u16, weight: u16, size: u16, random: &mut Random) -> u32
+    requires { 0 < size }
+{
+    let share = u32::from(price) * u32::from(weight) / u32::from(size);
+    share.saturating_sub(u32::from(random.below(3)))
 }
 
 /// Random prices: of loss 1 to 3, of a new slab 0 to 20, and of an order 0 to three times its weight.

@@ -31,10 +31,20 @@ pub struct Work {
 pub enum MillPart {
     /// Pricing, at random prices.
     Price,
-    /// Random decisions, and what follows from them.
-    Decisions,
+    /// Pricing, at low prices, where no column exceeds.
+    PriceNone,
+    /// Random decisions of pairs and puts.
+    Pair,
+    /// What follows from random decisions.
+    Follows,
+    /// Random columns, and which of them random decisions allow.
+    Allows,
     /// The pool, of random columns.
     Pool,
+    /// The test of a leaf, at random prices under random decisions.
+    Leaf,
+    /// The test of a leaf, at low prices, where no column exceeds, under random decisions.
+    LeafNone,
 }
 
 /// A part, and the file of the mill that it works on.
@@ -94,8 +104,13 @@ pub fn read_mill_work(words: &[String]) -> Option<MillWork<'_>> {
 fn mill_part_of(word: &str) -> Option<MillPart> {
     match word {
         "price" => Some(MillPart::Price),
-        "decisions" => Some(MillPart::Decisions),
+        "price_none" => Some(MillPart::PriceNone),
+        "pair" => Some(MillPart::Pair),
+        "follows" => Some(MillPart::Follows),
+        "allows" => Some(MillPart::Allows),
         "pool" => Some(MillPart::Pool),
+        "leaf" => Some(MillPart::Leaf),
+        "leaf_none" => Some(MillPart::LeafNone),
         _ => None,
     }
 }
