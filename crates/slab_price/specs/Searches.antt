@@ -21,7 +21,7 @@ use Rattle.mill_model.specs.Groupings.{Groups, weight_at, gain_at}
 use Rattle.slab_price.specs.Parts.{IsPart, left_of}
 
 -- a mill with all that is asked about it
-pub record IsQuestion (m : Mill) (listed : List ℕ) (decisions : Decisions) (p : Prices) : Type 0 where
+pub record IsTask (m : Mill) (listed : List ℕ) (decisions : Decisions) (p : Prices) : Type 0 where
   pub limits : IsInLimits m
   pub together : BelongTogether m listed decisions p
   pub sign : pos 0 ≤ℤ p.lambda
@@ -44,7 +44,7 @@ pub record IsQueue (m : Mill) (frame : Frame) (queue : Queue) : Type 0 where
 
 -- what a walk goes by
 pub record IsHunt (m : Mill) (listed : List ℕ) (decisions : Decisions) (p : Prices) (frame : Frame) (queue : Queue) : Type 0 where
-  pub asked : IsQuestion m listed decisions p
+  pub asked : IsTask m listed decisions p
   pub framed : IsFrame m decisions.list p frame
   pub queued : IsQueue m frame queue
 

@@ -11,10 +11,10 @@ mod offer;
 mod pairs;
 mod plus;
 mod pricing;
-mod question;
 mod queue;
 mod rests;
 mod table;
+mod task;
 #[cfg(test)]
 mod tests;
 mod walk;

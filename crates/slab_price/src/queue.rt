@@ -1,13 +1,14 @@
+//! The groups of two colours, with what the first so many of them gain at most.
 ghost use Rattle.std.specs.Prelude.{◌≡◌, ◌+◌, ◌<◌, ◌≤◌, ℕ, List, IfOk, length};
 ghost use Rattle.std.specs.List.{AllByRecursion};
 ghost use Rattle.mill_model.specs.Columns.{Rises};
 ghost use Rattle.slab_price.specs.Bounds.{IsFrame, IsOfColours};
 ghost use Rattle.slab_price.specs.Parts.{IsPart, left_of};
-ghost use Rattle.slab_price.specs.Searches.{IsQuestion, IsQueue, HasQueueRoom};
+ghost use Rattle.slab_price.specs.Searches.{IsTask, IsQueue, HasQueueRoom};
 
 use crate::frame::Frame;
 use crate::marks::{gather, mark};
-use crate::question::Question;
+use crate::task::Task;
 use crate::rests::sum_rests;
 use crate::table::tabulate;
 use std::alloc::{AllocError, Global};
@@ -46,10 +47,10 @@ impl Queue {
     }
 }
 
-impl Question<'_> {
+impl Task<'_> {
     /// Fills the queue with the groups of two colours.
     pub(crate) fn fill_queue(&self, frame: &Frame, first: u16, second: u16, queue: &mut Queue)
-        requires question { IsQuestion self.now.mill.now self.now.table.now self.now.decisions.now self.now.prices.now }
+        requires task { IsTask self.now.mill.now self.now.table.now self.now.decisions.now self.now.prices.now }
         requires frame { IsFrame self.now.mill.now self.now.decisions.now.list self.now.prices.now frame.now }
         requires room { HasQueueRoom (length self.now.mill.now.orders) queue.old }
         ensures room { HasQueueRoom (length self.now.mill.now.orders) queue.new }

@@ -1,3 +1,4 @@
+//! What the first groups of a queue gain at most, whatever their weight.
 ghost use Rattle.std.specs.Prelude.{◌≡◌, ◌+◌, ◌<◌, ◌≤◌, length, vec_capacity};
 ghost use Rattle.slab_price.specs.Bounds.{AreRests, AreWeighed};
 

@@ -1,3 +1,4 @@
+//! The walk over the columns of two colours, group by group.
 ghost use Rattle.std.specs.Prelude.{◌≡◌, ◌+◌, ◌^◌, ◌<◌, ◌≤◌, pos, ◌-ℤ◌, ◌≤ℤ◌, unsigned_abs, length, [], ◌++◌, ◌↔◌, IsTrue, true, vec_capacity};
 ghost use Rattle.std.specs.Bool.{OnTrue};
 ghost use Rattle.mill_model.specs.Columns.{has};
@@ -9,13 +10,13 @@ ghost use Rattle.slab_price.specs.Searches.{IsHunt, IsBest, IsBestFrom, AreChose
 
 use crate::best::Best;
 use crate::frame::Frame;
-use crate::question::Question;
+use crate::task::Task;
 use crate::queue::Queue;
 
 /// What a walk goes by.
 #[derive(Clone, Copy)]
 pub(crate) struct Hunt<'a> {
-    pub question: &'a Question<'a>,
+    pub task: &'a Task<'a>,
     pub frame: &'a Frame,
     pub queue: &'a Queue,
 }
@@ -50,10 +51,10 @@ fn list_members(heads: &[u16], chosen: &[u16], orders: &mut Vec<u16>)
 impl Hunt<'_> {
     /// What the first groups of the queue gain at most beside a load.
     fn most(&self, left: usize, load: u32) -> i128
-        requires hunt { IsHunt self.now.question.now.mill.now self.now.question.now.table.now self.now.question.now.decisions.now self.now.question.now.prices.now self.now.frame.now self.now.queue.now }
+        requires hunt { IsHunt self.now.task.now.mill.now self.now.task.now.table.now self.now.task.now.decisions.now self.now.task.now.prices.now self.now.frame.now self.now.queue.now }
         requires left { left ≤ length self.now.queue.now.heads.items }
         requires load { load < length self.now.frame.now.ends.items }
-        ensures most { IsMost self.now.question.now.mill.now self.now.question.now.prices.now self.now.frame.now.groups (left_of self.now.queue.now.heads.items left) load result }
+        ensures most { IsMost self.now.task.now.mill.now self.now.task.now.prices.now self.now.frame.now.groups (left_of self.now.queue.now.heads.items left) load result }
         ensures small { unsigned_abs result ≤ 2 ^ 110 }
     {
         let loads = self.frame.ends.len();
@@ -65,31 +66,31 @@ impl Hunt<'_> {
 
     /// Whether the groups chosen and some of the first ones can't exceed more than the best.
     fn is_hopeless(&self, left: usize, load: u32, gain: i128, best: i128) -> bool
-        requires hunt { IsHunt self.now.question.now.mill.now self.now.question.now.table.now self.now.question.now.decisions.now self.now.question.now.prices.now self.now.frame.now self.now.queue.now }
+        requires hunt { IsHunt self.now.task.now.mill.now self.now.task.now.table.now self.now.task.now.decisions.now self.now.task.now.prices.now self.now.frame.now self.now.queue.now }
         requires left { left ≤ length self.now.queue.now.heads.items }
         requires load { load < length self.now.frame.now.ends.items }
         requires small { unsigned_abs gain ≤ 2 ^ 92 }
-        ensures { OnTrue result (IsMost self.now.question.now.mill.now self.now.question.now.prices.now self.now.frame.now.groups (left_of self.now.queue.now.heads.items left) load (best -ℤ gain)) }
+        ensures { OnTrue result (IsMost self.now.task.now.mill.now self.now.task.now.prices.now self.now.frame.now.groups (left_of self.now.queue.now.heads.items left) load (best -ℤ gain)) }
     {
         gain + self.most(left, load) <= best
     }
 
     /// Offers the orders of the groups chosen.
     fn offer(&self, weight: u32, gain: i128, chosen: &[u16], orders: &mut Vec<u16>, best: &mut Best)
-        requires hunt { IsHunt self.now.question.now.mill.now self.now.question.now.table.now self.now.question.now.decisions.now self.now.question.now.prices.now self.now.frame.now self.now.queue.now }
+        requires hunt { IsHunt self.now.task.now.mill.now self.now.task.now.table.now self.now.task.now.decisions.now self.now.task.now.prices.now self.now.frame.now self.now.queue.now }
         requires chosen { AreChosen self.now.frame.now.groups self.now.queue.now.heads.items 0 chosen.now weight gain }
-        requires orders { length self.now.question.now.mill.now.orders ≤ vec_capacity orders.old }
-        requires best { IsBest self.now.question.now.mill.now self.now.question.now.decisions.now.list self.now.question.now.prices.now best.old }
-        requires room { length self.now.question.now.mill.now.orders ≤ vec_capacity best.old.orders }
-        ensures orders { length self.now.question.now.mill.now.orders ≤ vec_capacity orders.new }
-        ensures room { length self.now.question.now.mill.now.orders ≤ vec_capacity best.new.orders }
+        requires orders { length self.now.task.now.mill.now.orders ≤ vec_capacity orders.old }
+        requires best { IsBest self.now.task.now.mill.now self.now.task.now.decisions.now.list self.now.task.now.prices.now best.old }
+        requires room { length self.now.task.now.mill.now.orders ≤ vec_capacity best.old.orders }
+        ensures orders { length self.now.task.now.mill.now.orders ≤ vec_capacity orders.new }
+        ensures room { length self.now.task.now.mill.now.orders ≤ vec_capacity best.new.orders }
         ensures grows { best.old.excess ≤ℤ best.new.excess }
-        ensures kept { IsBest self.now.question.now.mill.now self.now.question.now.decisions.now.list self.now.question.now.prices.now best.new }
-        ensures greatest { IsBestFrom self.now.question.now.mill.now self.now.question.now.decisions.now.list self.now.question.now.prices.now self.now.frame.now.groups self.now.queue.now.heads.items 0 chosen.now best.new.excess }
+        ensures kept { IsBest self.now.task.now.mill.now self.now.task.now.decisions.now.list self.now.task.now.prices.now best.new }
+        ensures greatest { IsBestFrom self.now.task.now.mill.now self.now.task.now.decisions.now.list self.now.task.now.prices.now self.now.frame.now.groups self.now.queue.now.heads.items 0 chosen.now best.new.excess }
     {
         list_members(self.frame.groups.heads(), chosen, orders);
         if !orders.is_empty() {
-            self.question.offer(weight, gain, orders, best);
+            self.task.offer(weight, gain, orders, best);
         }
     }
 
@@ -104,21 +105,21 @@ impl Hunt<'_> {
         orders: &mut Vec<u16>,
         best: &mut Best,
     )
-        requires hunt { IsHunt self.now.question.now.mill.now self.now.question.now.table.now self.now.question.now.decisions.now self.now.question.now.prices.now self.now.frame.now self.now.queue.now }
+        requires hunt { IsHunt self.now.task.now.mill.now self.now.task.now.table.now self.now.task.now.decisions.now self.now.task.now.prices.now self.now.frame.now self.now.queue.now }
         requires left { left ≤ length self.now.queue.now.heads.items }
         requires light { weight < length self.now.frame.now.ends.items }
         requires chosen { AreChosen self.now.frame.now.groups self.now.queue.now.heads.items left chosen.old.items weight gain }
         requires capacity { length self.now.queue.now.heads.items ≤ vec_capacity chosen.old }
-        requires orders { length self.now.question.now.mill.now.orders ≤ vec_capacity orders.old }
-        requires best { IsBest self.now.question.now.mill.now self.now.question.now.decisions.now.list self.now.question.now.prices.now best.old }
-        requires room { length self.now.question.now.mill.now.orders ≤ vec_capacity best.old.orders }
+        requires orders { length self.now.task.now.mill.now.orders ≤ vec_capacity orders.old }
+        requires best { IsBest self.now.task.now.mill.now self.now.task.now.decisions.now.list self.now.task.now.prices.now best.old }
+        requires room { length self.now.task.now.mill.now.orders ≤ vec_capacity best.old.orders }
         ensures chosen { chosen.new.items ≡ chosen.old.items }
         ensures capacity { vec_capacity chosen.new ≡ vec_capacity chosen.old }
-        ensures orders { length self.now.question.now.mill.now.orders ≤ vec_capacity orders.new }
-        ensures room { length self.now.question.now.mill.now.orders ≤ vec_capacity best.new.orders }
+        ensures orders { length self.now.task.now.mill.now.orders ≤ vec_capacity orders.new }
+        ensures room { length self.now.task.now.mill.now.orders ≤ vec_capacity best.new.orders }
         ensures grows { best.old.excess ≤ℤ best.new.excess }
-        ensures kept { IsBest self.now.question.now.mill.now self.now.question.now.decisions.now.list self.now.question.now.prices.now best.new }
-        ensures greatest { IsBestFrom self.now.question.now.mill.now self.now.question.now.decisions.now.list self.now.question.now.prices.now self.now.frame.now.groups self.now.queue.now.heads.items left chosen.old.items best.new.excess }
+        ensures kept { IsBest self.now.task.now.mill.now self.now.task.now.decisions.now.list self.now.task.now.prices.now best.new }
+        ensures greatest { IsBestFrom self.now.task.now.mill.now self.now.task.now.decisions.now.list self.now.task.now.prices.now self.now.frame.now.groups self.now.queue.now.heads.items left chosen.old.items best.new.excess }
     {
         if self.is_hopeless(left, weight, gain, best.excess) {
             return;

@@ -14,27 +14,27 @@ use Rattle.slab_price.proofs.walk.Hunt.+walk.Goals as goal
 
 pub is_hopeless-requires-clause-small : goal.is_hopeless-requires-clause-small
 is_hopeless-requires-clause-small t c =
-    let gain_small : unsigned_abs c.args.gain ≤ 2 ^ 92 = chosen_small c.args.self.now.question.now.mill.now c.args.self.now.question.now.decisions.now.list c.args.self.now.question.now.prices.now c.args.self.now.frame.now.groups c.requires.hunt.framed.groups c.args.self.now.queue.now.heads.items c.requires.hunt.queued.queued c.args.left c.args.chosen.now.items c.args.weight c.args.gain c.requires.hunt.asked.limits.order_count c.requires.chosen in
+    let gain_small : unsigned_abs c.args.gain ≤ 2 ^ 92 = chosen_small c.args.self.now.task.now.mill.now c.args.self.now.task.now.decisions.now.list c.args.self.now.task.now.prices.now c.args.self.now.frame.now.groups c.requires.hunt.framed.groups c.args.self.now.queue.now.heads.items c.requires.hunt.queued.queued c.args.left c.args.chosen.now.items c.args.weight c.args.gain c.requires.hunt.asked.limits.order_count c.requires.chosen in
     omega (arith, ints, gain_small)
 
 pub returns-then-is_hopeless-clause-greatest : goal.returns-then-is_hopeless-clause-greatest
 returns-then-is_hopeless-clause-greatest t c =
-    let gain_small : unsigned_abs c.args.gain ≤ 2 ^ 92 = chosen_small c.args.self.now.question.now.mill.now c.args.self.now.question.now.decisions.now.list c.args.self.now.question.now.prices.now c.args.self.now.frame.now.groups c.requires.hunt.framed.groups c.args.self.now.queue.now.heads.items c.requires.hunt.queued.queued c.args.left c.args.chosen.now.items c.args.weight c.args.gain c.requires.hunt.asked.limits.order_count c.requires.chosen in
-    best_pruned c.args.self.now.question.now.mill.now c.args.self.now.question.now.decisions.now.list c.args.self.now.question.now.prices.now c.args.self.now.frame.now.groups c.requires.hunt.framed.groups c.args.self.now.queue.now.heads.items c.requires.hunt.queued.queued c.args.left c.args.chosen.now.items c.args.weight c.args.gain c.args.best.now.excess c.requires.chosen
-    (most_weaker c.args.self.now.question.now.mill.now c.args.self.now.question.now.prices.now c.args.self.now.frame.now.groups (left_of c.args.self.now.queue.now.heads.items c.args.left) c.args.weight (to_z w128 (of_z w128 c.args.best.now.excess) -ℤ to_z w128 (of_z w128 c.args.gain)) (c.args.best.now.excess -ℤ c.args.gain) (omega (arith, ints, gain_small)) c.if-is_hopeless.ensures)
+    let gain_small : unsigned_abs c.args.gain ≤ 2 ^ 92 = chosen_small c.args.self.now.task.now.mill.now c.args.self.now.task.now.decisions.now.list c.args.self.now.task.now.prices.now c.args.self.now.frame.now.groups c.requires.hunt.framed.groups c.args.self.now.queue.now.heads.items c.requires.hunt.queued.queued c.args.left c.args.chosen.now.items c.args.weight c.args.gain c.requires.hunt.asked.limits.order_count c.requires.chosen in
+    best_pruned c.args.self.now.task.now.mill.now c.args.self.now.task.now.decisions.now.list c.args.self.now.task.now.prices.now c.args.self.now.frame.now.groups c.requires.hunt.framed.groups c.args.self.now.queue.now.heads.items c.requires.hunt.queued.queued c.args.left c.args.chosen.now.items c.args.weight c.args.gain c.args.best.now.excess c.requires.chosen
+    (most_weaker c.args.self.now.task.now.mill.now c.args.self.now.task.now.prices.now c.args.self.now.frame.now.groups (left_of c.args.self.now.queue.now.heads.items c.args.left) c.args.weight (to_z w128 (of_z w128 c.args.best.now.excess) -ℤ to_z w128 (of_z w128 c.args.gain)) (c.args.best.now.excess -ℤ c.args.gain) (omega (arith, ints, gain_small)) c.if-is_hopeless.ensures)
 
 pub weight-requires : goal.weight-requires
 weight-requires t c =
     let next : c.args.left ≡ c.args.left - 1 + 1 = omega (arith, c.if-left-eq0.false) in
     let lt : c.args.left - 1 < length c.args.self.now.queue.now.heads.items = omega (arith, next, c.requires.left) in
     let head : c.index-head.result.now ≡ get_or c.args.self.now.queue.now.heads.items (c.args.left - 1) 0 = c.index-head.ensures ∙ get_or_default c.args.self.now.queue.now.heads.items (c.args.left - 1) c.index-head.result.now 0 lt in
-    let inside : get_or c.args.self.now.queue.now.heads.items (c.args.left - 1) 0 < length c.args.self.now.question.now.mill.now.orders = head_inside c.args.self.now.question.now.mill.now c.args.self.now.frame.now.groups.heads c.args.self.now.queue.now.heads.items c.requires.hunt.queued.queued (c.args.left - 1) 0 lt in
+    let inside : get_or c.args.self.now.queue.now.heads.items (c.args.left - 1) 0 < length c.args.self.now.task.now.mill.now.orders = head_inside c.args.self.now.task.now.mill.now c.args.self.now.frame.now.groups.heads c.args.self.now.queue.now.heads.items c.requires.hunt.queued.queued (c.args.left - 1) 0 lt in
     omega (arith, head, inside, c.requires.hunt.framed.groups.room.weights)
 
 pub walk-requires : goal.walk-requires
 walk-requires t c =
     let next : c.args.left ≡ c.args.left - 1 + 1 = omega (arith, c.if-left-eq0.false) in
-    let gain_small : unsigned_abs c.args.gain ≤ 2 ^ 92 = chosen_small c.args.self.now.question.now.mill.now c.args.self.now.question.now.decisions.now.list c.args.self.now.question.now.prices.now c.args.self.now.frame.now.groups c.requires.hunt.framed.groups c.args.self.now.queue.now.heads.items c.requires.hunt.queued.queued c.args.left c.args.chosen.now.items c.args.weight c.args.gain c.requires.hunt.asked.limits.order_count c.requires.chosen in
+    let gain_small : unsigned_abs c.args.gain ≤ 2 ^ 92 = chosen_small c.args.self.now.task.now.mill.now c.args.self.now.task.now.decisions.now.list c.args.self.now.task.now.prices.now c.args.self.now.frame.now.groups c.requires.hunt.framed.groups c.args.self.now.queue.now.heads.items c.requires.hunt.queued.queued c.args.left c.args.chosen.now.items c.args.weight c.args.gain c.requires.hunt.asked.limits.order_count c.requires.chosen in
     let gain_back : to_z w128 (of_z w128 c.args.gain) ≡ c.args.gain = omega (arith, ints, gain_small) in
     let at : AreChosen c.args.self.now.frame.now.groups c.args.self.now.queue.now.heads.items (c.args.left - 1 + 1) c.args.chosen.now.items c.args.weight c.args.gain = subst (λ (k : ℕ). AreChosen c.args.self.now.frame.now.groups c.args.self.now.queue.now.heads.items k c.args.chosen.now.items c.args.weight c.args.gain) next c.requires.chosen in
     let later : AreChosen c.args.self.now.frame.now.groups c.args.self.now.queue.now.heads.items (c.args.left - 1) c.args.chosen.now.items c.args.weight (to_z w128 (of_z w128 c.args.gain)) = subst (λ (z : ℤ). AreChosen c.args.self.now.frame.now.groups c.args.self.now.queue.now.heads.items (c.args.left - 1) c.args.chosen.now.items c.args.weight z) (sym gain_back) (chosen_later c.args.self.now.frame.now.groups c.args.self.now.queue.now.heads.items (c.args.left - 1) c.args.chosen.now.items c.args.weight c.args.gain at) in
@@ -48,15 +48,15 @@ returns-then-heavier-len-clause-greatest t c =
     let head : c.index-head.result.now ≡ get_or c.args.self.now.queue.now.heads.items (c.args.left - 1) 0 = c.index-head.ensures ∙ get_or_default c.args.self.now.queue.now.heads.items (c.args.left - 1) c.index-head.result.now 0 lt in
     let weight : c.weight.result ≡ weight_at c.args.self.now.frame.now.groups (get_or c.args.self.now.queue.now.heads.items (c.args.left - 1) 0) = c.weight.ensures ∙ ap (weight_at c.args.self.now.frame.now.groups) head in
     let heavy : length c.args.self.now.frame.now.ends.items ≤ c.args.weight + weight_at c.args.self.now.frame.now.groups (get_or c.args.self.now.queue.now.heads.items (c.args.left - 1) 0) = omega (arith, c.if-heavier-len.true, c.len.ensures, c.args.self.now.frame.now.ends.ok.0, weight) in
-    let all : IsBestFrom c.args.self.now.question.now.mill.now c.args.self.now.question.now.decisions.now.list c.args.self.now.question.now.prices.now c.args.self.now.frame.now.groups c.args.self.now.queue.now.heads.items (c.args.left - 1 + 1) c.args.chosen.now.items c.walk.new.best.excess = best_heavy c.args.self.now.question.now.mill.now c.args.self.now.question.now.decisions.now.list c.args.self.now.question.now.prices.now c.args.self.now.frame.now.groups c.requires.hunt.framed.groups c.args.self.now.queue.now.heads.items c.requires.hunt.queued.queued (c.args.left - 1) c.args.chosen.now.items c.args.weight c.args.gain c.walk.new.best.excess c.args.self.now.frame.now.ends.items at c.requires.hunt.framed.ends heavy c.walk.ensures.greatest in
-    subst (λ (k : ℕ). IsBestFrom c.args.self.now.question.now.mill.now c.args.self.now.question.now.decisions.now.list c.args.self.now.question.now.prices.now c.args.self.now.frame.now.groups c.args.self.now.queue.now.heads.items k c.args.chosen.now.items c.walk.new.best.excess) (sym next) all
+    let all : IsBestFrom c.args.self.now.task.now.mill.now c.args.self.now.task.now.decisions.now.list c.args.self.now.task.now.prices.now c.args.self.now.frame.now.groups c.args.self.now.queue.now.heads.items (c.args.left - 1 + 1) c.args.chosen.now.items c.walk.new.best.excess = best_heavy c.args.self.now.task.now.mill.now c.args.self.now.task.now.decisions.now.list c.args.self.now.task.now.prices.now c.args.self.now.frame.now.groups c.requires.hunt.framed.groups c.args.self.now.queue.now.heads.items c.requires.hunt.queued.queued (c.args.left - 1) c.args.chosen.now.items c.args.weight c.args.gain c.walk.new.best.excess c.args.self.now.frame.now.ends.items at c.requires.hunt.framed.ends heavy c.walk.ensures.greatest in
+    subst (λ (k : ℕ). IsBestFrom c.args.self.now.task.now.mill.now c.args.self.now.task.now.decisions.now.list c.args.self.now.task.now.prices.now c.args.self.now.frame.now.groups c.args.self.now.queue.now.heads.items k c.args.chosen.now.items c.walk.new.best.excess) (sym next) all
 
 pub gain-requires : goal.gain-requires
 gain-requires t c =
     let next : c.args.left ≡ c.args.left - 1 + 1 = omega (arith, c.if-left-eq0.false) in
     let lt : c.args.left - 1 < length c.args.self.now.queue.now.heads.items = omega (arith, next, c.requires.left) in
     let head : c.index-head.result.now ≡ get_or c.args.self.now.queue.now.heads.items (c.args.left - 1) 0 = c.index-head.ensures ∙ get_or_default c.args.self.now.queue.now.heads.items (c.args.left - 1) c.index-head.result.now 0 lt in
-    let inside : get_or c.args.self.now.queue.now.heads.items (c.args.left - 1) 0 < length c.args.self.now.question.now.mill.now.orders = head_inside c.args.self.now.question.now.mill.now c.args.self.now.frame.now.groups.heads c.args.self.now.queue.now.heads.items c.requires.hunt.queued.queued (c.args.left - 1) 0 lt in
+    let inside : get_or c.args.self.now.queue.now.heads.items (c.args.left - 1) 0 < length c.args.self.now.task.now.mill.now.orders = head_inside c.args.self.now.task.now.mill.now c.args.self.now.frame.now.groups.heads c.args.self.now.queue.now.heads.items c.requires.hunt.queued.queued (c.args.left - 1) 0 lt in
     omega (arith, head, inside, c.requires.hunt.framed.groups.room.gains)
 
 pub overflow_add-richer : goal.overflow_add-richer
@@ -64,8 +64,8 @@ overflow_add-richer t c =
     let next : c.args.left ≡ c.args.left - 1 + 1 = omega (arith, c.if-left-eq0.false) in
     let lt : c.args.left - 1 < length c.args.self.now.queue.now.heads.items = omega (arith, next, c.requires.left) in
     let head : c.index-head.result.now ≡ get_or c.args.self.now.queue.now.heads.items (c.args.left - 1) 0 = c.index-head.ensures ∙ get_or_default c.args.self.now.queue.now.heads.items (c.args.left - 1) c.index-head.result.now 0 lt in
-    let inside : get_or c.args.self.now.queue.now.heads.items (c.args.left - 1) 0 < length c.args.self.now.question.now.mill.now.orders = head_inside c.args.self.now.question.now.mill.now c.args.self.now.frame.now.groups.heads c.args.self.now.queue.now.heads.items c.requires.hunt.queued.queued (c.args.left - 1) 0 lt in
-    let gain_small : unsigned_abs c.args.gain ≤ 2 ^ 92 = chosen_small c.args.self.now.question.now.mill.now c.args.self.now.question.now.decisions.now.list c.args.self.now.question.now.prices.now c.args.self.now.frame.now.groups c.requires.hunt.framed.groups c.args.self.now.queue.now.heads.items c.requires.hunt.queued.queued c.args.left c.args.chosen.now.items c.args.weight c.args.gain c.requires.hunt.asked.limits.order_count c.requires.chosen in
+    let inside : get_or c.args.self.now.queue.now.heads.items (c.args.left - 1) 0 < length c.args.self.now.task.now.mill.now.orders = head_inside c.args.self.now.task.now.mill.now c.args.self.now.frame.now.groups.heads c.args.self.now.queue.now.heads.items c.requires.hunt.queued.queued (c.args.left - 1) 0 lt in
+    let gain_small : unsigned_abs c.args.gain ≤ 2 ^ 92 = chosen_small c.args.self.now.task.now.mill.now c.args.self.now.task.now.decisions.now.list c.args.self.now.task.now.prices.now c.args.self.now.frame.now.groups c.requires.hunt.framed.groups c.args.self.now.queue.now.heads.items c.requires.hunt.queued.queued c.args.left c.args.chosen.now.items c.args.weight c.args.gain c.requires.hunt.asked.limits.order_count c.requires.chosen in
     let group_small : unsigned_abs (gain_at c.args.self.now.frame.now.groups (get_or c.args.self.now.queue.now.heads.items (c.args.left - 1) 0)) ≤ 250 * 2 ^ 76 = c.requires.hunt.framed.groups.small (get_or c.args.self.now.queue.now.heads.items (c.args.left - 1) 0) inside in
     let group : c.gain.result ≡ gain_at c.args.self.now.frame.now.groups (get_or c.args.self.now.queue.now.heads.items (c.args.left - 1) 0) = c.gain.ensures ∙ ap (gain_at c.args.self.now.frame.now.groups) head in
     omega (arith, ints, gain_small, group_small, group)
@@ -75,8 +75,8 @@ walk-requires-2 t c =
     let next : c.args.left ≡ c.args.left - 1 + 1 = omega (arith, c.if-left-eq0.false) in
     let lt : c.args.left - 1 < length c.args.self.now.queue.now.heads.items = omega (arith, next, c.requires.left) in
     let head : c.index-head.result.now ≡ get_or c.args.self.now.queue.now.heads.items (c.args.left - 1) 0 = c.index-head.ensures ∙ get_or_default c.args.self.now.queue.now.heads.items (c.args.left - 1) c.index-head.result.now 0 lt in
-    let inside : get_or c.args.self.now.queue.now.heads.items (c.args.left - 1) 0 < length c.args.self.now.question.now.mill.now.orders = head_inside c.args.self.now.question.now.mill.now c.args.self.now.frame.now.groups.heads c.args.self.now.queue.now.heads.items c.requires.hunt.queued.queued (c.args.left - 1) 0 lt in
-    let gain_small : unsigned_abs c.args.gain ≤ 2 ^ 92 = chosen_small c.args.self.now.question.now.mill.now c.args.self.now.question.now.decisions.now.list c.args.self.now.question.now.prices.now c.args.self.now.frame.now.groups c.requires.hunt.framed.groups c.args.self.now.queue.now.heads.items c.requires.hunt.queued.queued c.args.left c.args.chosen.now.items c.args.weight c.args.gain c.requires.hunt.asked.limits.order_count c.requires.chosen in
+    let inside : get_or c.args.self.now.queue.now.heads.items (c.args.left - 1) 0 < length c.args.self.now.task.now.mill.now.orders = head_inside c.args.self.now.task.now.mill.now c.args.self.now.frame.now.groups.heads c.args.self.now.queue.now.heads.items c.requires.hunt.queued.queued (c.args.left - 1) 0 lt in
+    let gain_small : unsigned_abs c.args.gain ≤ 2 ^ 92 = chosen_small c.args.self.now.task.now.mill.now c.args.self.now.task.now.decisions.now.list c.args.self.now.task.now.prices.now c.args.self.now.frame.now.groups c.requires.hunt.framed.groups c.args.self.now.queue.now.heads.items c.requires.hunt.queued.queued c.args.left c.args.chosen.now.items c.args.weight c.args.gain c.requires.hunt.asked.limits.order_count c.requires.chosen in
     let at : AreChosen c.args.self.now.frame.now.groups c.args.self.now.queue.now.heads.items (c.args.left - 1 + 1) c.args.chosen.now.items c.args.weight c.args.gain = subst (λ (k : ℕ). AreChosen c.args.self.now.frame.now.groups c.args.self.now.queue.now.heads.items k c.args.chosen.now.items c.args.weight c.args.gain) next c.requires.chosen in
     let weight : c.weight.result ≡ weight_at c.args.self.now.frame.now.groups (get_or c.args.self.now.queue.now.heads.items (c.args.left - 1) 0) = c.weight.ensures ∙ ap (weight_at c.args.self.now.frame.now.groups) head in
     let group_small : unsigned_abs (gain_at c.args.self.now.frame.now.groups (get_or c.args.self.now.queue.now.heads.items (c.args.left - 1) 0)) ≤ 250 * 2 ^ 76 = c.requires.hunt.framed.groups.small (get_or c.args.self.now.queue.now.heads.items (c.args.left - 1) 0) inside in
@@ -96,7 +96,7 @@ walk-requires-3 t c =
     let next : c.args.left ≡ c.args.left - 1 + 1 = omega (arith, c.if-left-eq0.false) in
     let lt : c.args.left - 1 < length c.args.self.now.queue.now.heads.items = omega (arith, next, c.requires.left) in
     let head : c.index-head.result.now ≡ get_or c.args.self.now.queue.now.heads.items (c.args.left - 1) 0 = c.index-head.ensures ∙ get_or_default c.args.self.now.queue.now.heads.items (c.args.left - 1) c.index-head.result.now 0 lt in
-    let gain_small : unsigned_abs c.args.gain ≤ 2 ^ 92 = chosen_small c.args.self.now.question.now.mill.now c.args.self.now.question.now.decisions.now.list c.args.self.now.question.now.prices.now c.args.self.now.frame.now.groups c.requires.hunt.framed.groups c.args.self.now.queue.now.heads.items c.requires.hunt.queued.queued c.args.left c.args.chosen.now.items c.args.weight c.args.gain c.requires.hunt.asked.limits.order_count c.requires.chosen in
+    let gain_small : unsigned_abs c.args.gain ≤ 2 ^ 92 = chosen_small c.args.self.now.task.now.mill.now c.args.self.now.task.now.decisions.now.list c.args.self.now.task.now.prices.now c.args.self.now.frame.now.groups c.requires.hunt.framed.groups c.args.self.now.queue.now.heads.items c.requires.hunt.queued.queued c.args.left c.args.chosen.now.items c.args.weight c.args.gain c.requires.hunt.asked.limits.order_count c.requires.chosen in
     let gain_back : to_z w128 (of_z w128 c.args.gain) ≡ c.args.gain = omega (arith, ints, gain_small) in
     let at : AreChosen c.args.self.now.frame.now.groups c.args.self.now.queue.now.heads.items (c.args.left - 1 + 1) c.args.chosen.now.items c.args.weight c.args.gain = subst (λ (k : ℕ). AreChosen c.args.self.now.frame.now.groups c.args.self.now.queue.now.heads.items k c.args.chosen.now.items c.args.weight c.args.gain) next c.requires.chosen in
     let later : AreChosen c.args.self.now.frame.now.groups c.args.self.now.queue.now.heads.items (c.args.left - 1) c.args.chosen.now.items c.args.weight (to_z w128 (of_z w128 c.args.gain)) = subst (λ (z : ℤ). AreChosen c.args.self.now.frame.now.groups c.args.self.now.queue.now.heads.items (c.args.left - 1) c.args.chosen.now.items c.args.weight z) (sym gain_back) (chosen_later c.args.self.now.frame.now.groups c.args.self.now.queue.now.heads.items (c.args.left - 1) c.args.chosen.now.items c.args.weight c.args.gain at) in
@@ -125,9 +125,9 @@ returns-clause-greatest t c =
     let head : c.index-head.result.now ≡ get_or c.args.self.now.queue.now.heads.items (c.args.left - 1) 0 = c.index-head.ensures ∙ get_or_default c.args.self.now.queue.now.heads.items (c.args.left - 1) c.index-head.result.now 0 lt in
     let pushed : c.push_reserved.new.self.items ≡ c.args.chosen.now.items ++ get_or c.args.self.now.queue.now.heads.items (c.args.left - 1) 0 ∷ [] = c.push_reserved.ensures.items ∙ ap (λ (h : ℕ). c.args.chosen.now.items ++ h ∷ []) head in
     let same : c.pop.new.self.items ≡ c.args.chosen.now.items = popped c.args.chosen.now.items c.walk-2.new.chosen.items c.pop.new.self.items (get_or c.args.self.now.queue.now.heads.items (c.args.left - 1) 0) _ (c.walk-2.ensures.chosen ∙ pushed) c.walk-2.new.chosen.ok.0 c.pop.ensures.rest in
-    let all : IsBestFrom c.args.self.now.question.now.mill.now c.args.self.now.question.now.decisions.now.list c.args.self.now.question.now.prices.now c.args.self.now.frame.now.groups c.args.self.now.queue.now.heads.items (c.args.left - 1 + 1) c.args.chosen.now.items c.walk-3.new.best.excess =
-    best_both c.args.self.now.question.now.mill.now c.args.self.now.question.now.decisions.now.list c.args.self.now.question.now.prices.now c.args.self.now.frame.now.groups c.requires.hunt.framed.groups c.args.self.now.queue.now.heads.items c.requires.hunt.queued.queued (c.args.left - 1) c.args.chosen.now.items c.walk-2.new.best.excess c.walk-3.new.best.excess
-    (subst (λ (os : List ℕ). IsBestFrom c.args.self.now.question.now.mill.now c.args.self.now.question.now.decisions.now.list c.args.self.now.question.now.prices.now c.args.self.now.frame.now.groups c.args.self.now.queue.now.heads.items (c.args.left - 1) os c.walk-2.new.best.excess) pushed c.walk-2.ensures.greatest)
+    let all : IsBestFrom c.args.self.now.task.now.mill.now c.args.self.now.task.now.decisions.now.list c.args.self.now.task.now.prices.now c.args.self.now.frame.now.groups c.args.self.now.queue.now.heads.items (c.args.left - 1 + 1) c.args.chosen.now.items c.walk-3.new.best.excess =
+    best_both c.args.self.now.task.now.mill.now c.args.self.now.task.now.decisions.now.list c.args.self.now.task.now.prices.now c.args.self.now.frame.now.groups c.requires.hunt.framed.groups c.args.self.now.queue.now.heads.items c.requires.hunt.queued.queued (c.args.left - 1) c.args.chosen.now.items c.walk-2.new.best.excess c.walk-3.new.best.excess
+    (subst (λ (os : List ℕ). IsBestFrom c.args.self.now.task.now.mill.now c.args.self.now.task.now.decisions.now.list c.args.self.now.task.now.prices.now c.args.self.now.frame.now.groups c.args.self.now.queue.now.heads.items (c.args.left - 1) os c.walk-2.new.best.excess) pushed c.walk-2.ensures.greatest)
     c.walk-3.ensures.grows
-    (subst (λ (os : List ℕ). IsBestFrom c.args.self.now.question.now.mill.now c.args.self.now.question.now.decisions.now.list c.args.self.now.question.now.prices.now c.args.self.now.frame.now.groups c.args.self.now.queue.now.heads.items (c.args.left - 1) os c.walk-3.new.best.excess) same c.walk-3.ensures.greatest) in
-    subst (λ (k : ℕ). IsBestFrom c.args.self.now.question.now.mill.now c.args.self.now.question.now.decisions.now.list c.args.self.now.question.now.prices.now c.args.self.now.frame.now.groups c.args.self.now.queue.now.heads.items k c.args.chosen.now.items c.walk-3.new.best.excess) (sym next) all
+    (subst (λ (os : List ℕ). IsBestFrom c.args.self.now.task.now.mill.now c.args.self.now.task.now.decisions.now.list c.args.self.now.task.now.prices.now c.args.self.now.frame.now.groups c.args.self.now.queue.now.heads.items (c.args.left - 1) os c.walk-3.new.best.excess) same c.walk-3.ensures.greatest) in
+    subst (λ (k : ℕ). IsBestFrom c.args.self.now.task.now.mill.now c.args.self.now.task.now.decisions.now.list c.args.self.now.task.now.prices.now c.args.self.now.frame.now.groups c.args.self.now.queue.now.heads.items k c.args.chosen.now.items c.walk-3.new.best.excess) (sym next) all
