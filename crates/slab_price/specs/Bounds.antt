@@ -74,6 +74,7 @@ pub record AreGathered (heads : List ℕ) (fits : List Bool) (low high : ℕ) (q
 -- heads of groups that go together, by their colours
 pub record AreQueued (m : Mill) (heads : List ℕ) (queue : List ℕ) : Type 0 where
   pub rises : Rises 0 (length m.orders) queue
+  pub own : AllByRecursion (λ head. head_of heads head ≡ head) queue
   pub colours : (taken : List ℕ) → IsPart taken queue → colours_of m (members heads taken) ≤ 2
 
 -- ---- bounds on what is left of the queue

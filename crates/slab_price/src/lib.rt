@@ -1,6 +1,7 @@
 //! Pricing: the column of greatest excess (least reduced cost) over all columns that the decisions allow.
 #![tactic(auto)]
 
+mod apart;
 mod best;
 mod ends;
 mod found;

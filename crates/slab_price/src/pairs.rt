@@ -7,8 +7,8 @@ ghost use Rattle.slab_price.specs.Searches.{IsTask, IsHunt, IsBest, IsBestFrom, 
 
 use crate::best::Best;
 use crate::frame::Frame;
-use crate::task::Task;
 use crate::queue::Queue;
+use crate::task::Task;
 use crate::walk::Hunt;
 use mill_model::Kind;
 use std::alloc::{AllocError, Global};

@@ -4,8 +4,8 @@ ghost use Rattle.slab_price.specs.Excess.{BelongTogether, IsGreatest, IsWorst};
 
 use crate::Found;
 use crate::pairs::Picks;
-use crate::task::Task;
 use crate::queue::Queue;
+use crate::task::Task;
 use loss_table::LossTable;
 use mill_model::{Mill, Prices};
 use slab_decide::Decisions;

@@ -8,9 +8,9 @@ ghost use Rattle.slab_price.specs.Searches.{IsTask, IsQueue, HasQueueRoom};
 
 use crate::frame::Frame;
 use crate::marks::{gather, mark};
-use crate::task::Task;
 use crate::rests::sum_rests;
 use crate::table::tabulate;
+use crate::task::Task;
 use std::alloc::{AllocError, Global};
 
 /// A table has at most so many entries.

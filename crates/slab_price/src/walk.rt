@@ -8,10 +8,11 @@ ghost use Rattle.mill_model.specs.Groupings.{weight_at, gain_at};
 ghost use Rattle.slab_price.specs.Parts.{left_of};
 ghost use Rattle.slab_price.specs.Searches.{IsHunt, IsBest, IsBestFrom, AreChosen};
 
+use crate::apart::is_apart;
 use crate::best::Best;
 use crate::frame::Frame;
-use crate::task::Task;
 use crate::queue::Queue;
+use crate::task::Task;
 
 /// What a walk goes by.
 #[derive(Clone, Copy)]
@@ -95,7 +96,7 @@ impl Hunt<'_> {
     }
 
     /// Improves the best by the columns of the groups chosen and some of the first ones of the queue. A branch is left out only
-    /// where its bound isn't above the best.
+    /// where its bound isn't above the best, or where no column has its groups.
     pub(crate) fn walk(
         &self,
         left: usize,
@@ -130,7 +131,9 @@ impl Hunt<'_> {
         }
         let head = self.queue.heads[left - 1];
         let heavier = weight + self.frame.groups.weight(head as usize);
-        if heavier as usize >= self.frame.ends.len() {
+        if heavier as usize >= self.frame.ends.len()
+            || is_apart(self.task.decisions, chosen, head)
+        {
             self.walk(left - 1, weight, gain, chosen, orders, best);
             return;
         }
