@@ -13,7 +13,6 @@ mod pairs;
 mod plus;
 mod pricing;
 mod queue;
-mod rests;
 mod table;
 mod task;
 #[cfg(test)]

@@ -58,11 +58,11 @@ impl Hunt<'_> {
         ensures most { IsMost self.now.task.now.mill.now self.now.task.now.prices.now self.now.frame.now.groups (left_of self.now.queue.now.heads.items left) load result }
         ensures small { unsigned_abs result ≤ 2 ^ 110 }
     {
-        let loads = self.frame.ends.len();
-        match self.queue.table.get(left * loads + load as usize) {
-            Some(&most) => most,
-            None => self.queue.rest[left] + self.frame.ends[load as usize],
+        if left == 0 {
+            return self.frame.ends[load as usize];
         }
+        let column = load as usize / self.queue.step;
+        self.queue.table[left * self.queue.width + column]
     }
 
     /// Whether the groups chosen and some of the first ones can't exceed more than the best.

@@ -1,21 +1,16 @@
-use Rattle.std.proofs.Common.{◌≡◌, ℕ, ℤ, List, ◌++◌, length, take, drop, ap, sym, subst, ◌∙◌, arith}
+use Rattle.std.proofs.Common.{◌≡◌, ℕ, List, ◌++◌, length, take, drop, ap, refl, sym, subst, ◌∙◌, arith}
 use Rattle.std.specs.Prelude.{Bool}
 use Rattle.std.proofs.Math.Seq.{take-append_seam}
 use Rattle.mill_model.specs.Columns.{Rises}
-use Rattle.slab_price.specs.Bounds.{AreGathered, AreMarked, AreRests, AreWeighed, IsTable}
-use Rattle.slab_price.specs.Parts.{left_of}
+use Rattle.slab_price.specs.Bounds.{AreGathered, AreMarked, AreQueued}
+use Rattle.slab_price.specs.Parts.{IsPart, left_of}
 use Rattle.slab_price.proofs.Queues.{covers, queued, weighed}
 use Rattle.slab_price.proofs.task.Task.fill_queue.Goals as goal
-
-pub sum_rests-requires-clause-weighed : goal.sum_rests-requires-clause-weighed
-sum_rests-requires-clause-weighed c =
-    let rises : Rises 0 (length c.args.frame.now.groups.heads) (left_of c.gather.new.queue.items (length c.gather.new.queue.items)) = subst (λ (hs : List ℕ). Rises 0 (length hs) (left_of c.gather.new.queue.items (length c.gather.new.queue.items))) c.heads-heads.ensures c.gather.ensures.gathered.rises in
-    subst (λ (qs : List ℕ). AreWeighed c.args.frame.now.groups qs) (sym c.deref-2.ensures.value) (weighed c.args.self.now.mill.now c.args.self.now.decisions.now.list c.args.self.now.prices.now c.args.frame.now.groups c.gather.new.queue.items c.requires.frame.groups rises)
 
 pub tabulate-requires-clause-weighed : goal.tabulate-requires-clause-weighed
 tabulate-requires-clause-weighed c =
     let rises : Rises 0 (length c.args.frame.now.groups.heads) (left_of c.gather.new.queue.items (length c.gather.new.queue.items)) = subst (λ (hs : List ℕ). Rises 0 (length hs) (left_of c.gather.new.queue.items (length c.gather.new.queue.items))) c.heads-heads.ensures c.gather.ensures.gathered.rises in
-    subst (λ (qs : List ℕ). AreWeighed c.args.frame.now.groups qs) (sym c.deref-3.ensures.value) (weighed c.args.self.now.mill.now c.args.self.now.decisions.now.list c.args.self.now.prices.now c.args.frame.now.groups c.gather.new.queue.items c.requires.frame.groups rises)
+    weighed c.args.self.now.mill.now c.args.self.now.decisions.now.list c.args.self.now.prices.now c.args.frame.now.groups c.gather.new.queue.items c.requires.frame.groups rises
 
 pub returns-clause-queue : goal.returns-clause-queue
 returns-clause-queue c =
@@ -27,12 +22,11 @@ returns-clause-queue c =
     let gathered : AreGathered c.args.frame.now.groups.heads c.mark.new.fits 0 (length c.args.frame.now.groups.heads) (left_of c.gather.new.queue.items (length c.gather.new.queue.items)) =
     subst (λ (hs : List ℕ). AreGathered hs c.mark.new.fits 0 (length hs) (left_of c.gather.new.queue.items (length c.gather.new.queue.items))) c.heads-heads.ensures
     (subst (λ (bs : List Bool). AreGathered c.heads-heads.result.now bs 0 (length c.heads-heads.result.now) (left_of c.gather.new.queue.items (length c.gather.new.queue.items))) fits c.gather.ensures.gathered) in
+    let same : c.tabulate.new.self.heads.items ≡ c.gather.new.queue.items = rw c.tabulate.ensures.heads refl in
     record {
-      queued = queued c.args.self.now.mill.now c.args.frame.now.groups.heads c.args.first c.args.second c.mark.new.fits size marked c.gather.new.queue.items gathered;
-      rests = subst (λ (qs : List ℕ). AreRests c.args.frame.now.groups qs (length qs) c.sum_rests.new.rest.items) c.deref-2.ensures.value c.sum_rests.ensures.rests;
-      table = subst (λ (es : List ℤ). IsTable c.args.frame.now.groups c.gather.new.queue.items es c.tabulate.new.table.items) c.deref-4.ensures.value
-          (subst (λ (qs : List ℕ). IsTable c.args.frame.now.groups qs c.deref-4.result.now c.tabulate.new.table.items) c.deref-3.ensures.value c.tabulate.ensures.table);
-      narrow = c.tabulate.ensures.narrow;
+      queued = subst (λ (qs : List ℕ). AreQueued c.args.self.now.mill.now c.args.frame.now.groups.heads (left_of qs (length qs))) (sym same)
+          (queued c.args.self.now.mill.now c.args.frame.now.groups.heads c.args.first c.args.second c.mark.new.fits size marked c.gather.new.queue.items gathered);
+      tabulated = c.tabulate.ensures.table;
     }
 
 pub returns-clause-covers : goal.returns-clause-covers
@@ -45,4 +39,6 @@ returns-clause-covers c =
     let gathered : AreGathered c.args.frame.now.groups.heads c.mark.new.fits 0 (length c.args.frame.now.groups.heads) (left_of c.gather.new.queue.items (length c.gather.new.queue.items)) =
     subst (λ (hs : List ℕ). AreGathered hs c.mark.new.fits 0 (length hs) (left_of c.gather.new.queue.items (length c.gather.new.queue.items))) c.heads-heads.ensures
     (subst (λ (bs : List Bool). AreGathered c.heads-heads.result.now bs 0 (length c.heads-heads.result.now) (left_of c.gather.new.queue.items (length c.gather.new.queue.items))) fits c.gather.ensures.gathered) in
-    covers c.args.self.now.mill.now c.args.frame.now.groups.heads c.args.first c.args.second c.mark.new.fits size marked c.gather.new.queue.items gathered
+    let same : c.tabulate.new.self.heads.items ≡ c.gather.new.queue.items = rw c.tabulate.ensures.heads refl in
+    λ taken r h. subst (λ (qs : List ℕ). IsPart taken (left_of qs (length qs))) (sym same)
+    (covers c.args.self.now.mill.now c.args.frame.now.groups.heads c.args.first c.args.second c.mark.new.fits size marked c.gather.new.queue.items gathered taken r h)
