@@ -20,6 +20,6 @@ pub record IsHead (decisions : List Decision) (order head : ℕ) : Type 0 where
 abbrev pub AreApart : List Decision → ℕ → ℕ → Type 0
 AreApart decisions first second = (c : Column) → column_agrees decisions c ≡ true → has c.orders first ≡ true → has c.orders second ≡ true → ⊥
 
--- nor has one an order together with a certain other of some
+-- an order is apart from one of some others
 abbrev pub IsApart : List Decision → List ℕ → ℕ → Type 0
 IsApart decisions others order = (other : ℕ) × (has others other ≡ true) × AreApart decisions other order

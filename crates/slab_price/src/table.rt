@@ -4,7 +4,7 @@ ghost use Rattle.slab_price.specs.Bounds.{AreSteps, AreWeighed, IsTable};
 
 use crate::frame::Frame;
 
-/// The least step of the load for which a table of so many groups fits, and has no more entries than a walk has ends.
+/// The least step of the load for which a table of so many groups fits, and has no more entries than a walk has leaves.
 pub(crate) fn step_for(groups: usize, room: usize, entries: usize) -> usize
     requires groups { groups ≤ 250 }
     requires room { room ≤ 10000 }
@@ -12,8 +12,8 @@ pub(crate) fn step_for(groups: usize, room: usize, entries: usize) -> usize
     ensures some { 0 < result }
     ensures fits { (groups + 1) * (room / result + 1) ≤ entries }
 {
-    let ends = if groups < 20 { 1 << groups } else { entries };
-    let width = (entries.min(ends) / (groups + 1)).max(1);
+    let leaves = if groups < 20 { 1 << groups } else { entries };
+    let width = (entries.min(leaves) / (groups + 1)).max(1);
     room / width + 1
 }
 
