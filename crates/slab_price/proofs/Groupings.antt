@@ -1,5 +1,5 @@
 -- Orders that the decisions put together, and groups that are weighed and priced.
-use Rattle.std.proofs.Common.{◌≡◌, ℕ, ◌*◌, ◌^◌, ◌<◌, ◌≤◌, ℤ, pos, ◌+ℤ◌, ◌*ℤ◌, Bool, true, false, cond, not, List, length, get_or, refl, sym, ap, ◌∙◌, inl, inr, arith, to_z, of_z, Option, Some, None}
+use Rattle.std.proofs.Common.{◌≡◌, ℕ, ◌*◌, ◌^◌, ◌<◌, ◌≤◌, ℤ, pos, ◌+ℤ◌, ◌*ℤ◌, Bool, true, false, cond, not, ◌&&◌, List, length, get_or, refl, sym, ap, ap₂, ◌∙◌, inl, inr, arith, to_z, of_z, Option, Some, None}
 use Rattle.std.specs.Prelude.{unsigned_abs, IfSome, IfNone}
 use Rattle.std.specs.Bool.{beq, OnTrue, OnFalse}
 use Rattle.std.specs.Option.{option_eq}
@@ -16,7 +16,7 @@ use Rattle.mill_model.specs.Groups.{head_of, AreHeads}
 use Rattle.mill_model.proofs.Closing.{same_group-true, same_group_from}
 use Rattle.mill_model.proofs.Agreement.{column_follows}
 use Rattle.slab_decide.specs.Decided.{AreConsistent, IsOpen}
-use Rattle.slab_price.specs.Groupings.{AreAlike, IsHead}
+use Rattle.slab_price.specs.Groupings.{AreAlike, AreApart, IsHead}
 
 -- ---- orders that lie together
 
@@ -26,12 +26,21 @@ both_or_neither true false e = e
 both_or_neither false true e = sym e
 both_or_neither false false e = refl
 
+not_both : (s t : Bool) → not (s && t) ≡ true → s ≡ true → t ≡ true → ⊥
+not_both s t e f g = both_ways (not (s && t)) (ap₂ (λ x y. not (x && y)) f g) e
+
 module _ (decisions : List Decision) (consistent : AreConsistent decisions) (first second : ℕ) where
   -- a column that agrees with decisions that put two orders together has both or neither
   pub alike_where_together : (answer : Option Bool) → IfSome answer (λ b. Follows decisions (Pair first second) b) → OnTrue (option_eq beq answer (Some true)) (AreAlike decisions second first)
   alike_where_together None some = tt
   alike_where_together (Some true) some = λ c agree. both_or_neither (has c.orders first) (has c.orders second) (column_follows c decisions consistent.0 (Pair first second) true consistent.1 agree some)
   alike_where_together (Some false) some = tt
+
+  -- one that agrees with decisions that keep them apart hasn't both
+  pub apart_where_kept : (answer : Option Bool) → IfSome answer (λ b. Follows decisions (Pair first second) b) → OnTrue (option_eq beq answer (Some false)) (AreApart decisions first second)
+  apart_where_kept None some = tt
+  apart_where_kept (Some true) some = tt
+  apart_where_kept (Some false) some = λ c agree f g. not_both (has c.orders first) (has c.orders second) (column_follows c decisions consistent.0 (Pair first second) false consistent.1 agree some) f g
 
   -- what may be otherwise, or is, doesn't follow
   pub not_together : (answer : Option Bool) → IfSome answer (λ b. Follows decisions (Pair first second) b) → IfNone answer (IsOpen decisions (Pair first second)) → OnFalse (option_eq beq answer (Some true)) (Follows decisions (Pair first second) true → ⊥)

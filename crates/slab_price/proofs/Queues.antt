@@ -20,7 +20,7 @@ all_from_has : (P : ℕ → Type 0) (low high : ℕ) (xs : List ℕ) → Rises l
 all_from_has P low high [] r h = tt
 all_from_has P low high (x ∷ xs) r h = (h x r.1 (or_left (eqb x x) (has xs x) (eq-eqb x x refl)), all_from_has P (x + 1) high xs r.2 (λ y l e. h y l (or_right (eqb x y) (has xs y) e)))
 
-rises_below : (low high : ℕ) (xs : List ℕ) → Rises low high xs → AllByRecursion (λ x. x < high) xs
+pub rises_below : (low high : ℕ) (xs : List ℕ) → Rises low high xs → AllByRecursion (λ x. x < high) xs
 rises_below low high [] r = tt
 rises_below low high (x ∷ xs) r = (r.1, rises_below (x + 1) high xs r.2)
 
@@ -33,6 +33,10 @@ module _ (m : Mill) (heads : List ℕ) (first second : ℕ) (fits : List Bool) (
   marked_of : (xs : List ℕ) → AllByRecursion (λ x. x < length m.orders) xs → AllByRecursion (IsOfColours m heads first second) xs → AllByRecursion (IsMarked heads fits) xs
   marked_of [] l h = tt
   marked_of (x ∷ xs) l h = ((h.0.own, marked.complete x l.0 h.0.colours), marked_of xs l.1 h.1)
+
+  own_of : (xs : List ℕ) → AllByRecursion (IsMarked heads fits) xs → AllByRecursion (λ head. head_of heads head ≡ head) xs
+  own_of [] h = tt
+  own_of (x ∷ xs) h = (h.0.0, own_of xs h.1)
 
   -- the orders of groups of two colours have the two colours
   members_colours : (taken : List ℕ) → AllByRecursion (IsOfColours m heads first second) taken → HaveColours m first second (members heads taken)
@@ -51,6 +55,7 @@ module _ (m : Mill) (heads : List ℕ) (first second : ℕ) (fits : List Bool) (
     pub queued : AreQueued m heads (left_of queue (length queue))
     queued = record {
       rises = rises;
+      own = own_of (left_of queue (length queue)) gathered.all;
       colours = λ taken part. two_colours_at_most m first second (members heads taken)
           (members_colours taken (part_all (IsOfColours m heads first second) taken (left_of queue (length queue)) part (of_marked (left_of queue (length queue)) (rises_below 0 (length m.orders) (left_of queue (length queue)) rises) gathered.all)));
     }

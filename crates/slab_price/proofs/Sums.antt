@@ -1,19 +1,15 @@
 -- What groups gain at most, summed up.
-use Rattle.std.proofs.Math.ListN.{get_or-append}
-use Rattle.std.proofs.Common.{◌≡◌, inl, inr, ◌⊎◌, ℕ, ◌+◌, ◌-◌, ◌*◌, ◌^◌, ◌<◌, ◌≤◌, pos, ◌+ℤ◌, ◌≤ℤ◌, ℤ, eqb, List, [], ◌∷◌, ◌++◌, length, get_or, set, sym, subst, ap, ◌∙◌, arith, get_or-set_same, get_or-set_other, length-set}
+use Rattle.std.proofs.Common.{◌≡◌, inl, inr, ◌⊎◌, ℕ, ◌+◌, ◌-◌, ◌*◌, ◌^◌, ◌<◌, ◌≤◌, pos, ◌+ℤ◌, ◌≤ℤ◌, ℤ, eqb, List, [], ◌∷◌, length, get_or, set, sym, subst, ap, ◌∙◌, arith, get_or-set_same, get_or-set_other, length-set}
 use Rattle.std.specs.Prelude.{unsigned_abs}
 use Rattle.std.proofs.lemmas.Int.{ints}
 use Rattle.std.proofs.lemmas.Bool.{cases_eq, cases_lt, cond_both, eq-eqb, ne_eqb}
-use Rattle.std.proofs.lemmas.List.{length_push, get_or_past, get_or-replicate, length-replicate}
+use Rattle.std.proofs.lemmas.List.{get_or_past, get_or-replicate, length-replicate}
 use Rattle.std.proofs.Math.ListN.{replicate}
-use Rattle.std.proofs.Math.Seq.{get_or-append_seam}
 use Rattle.mill_model.specs.Mill.{Mill}
 use Rattle.mill_model.specs.SignedSums.{total_by}
 use Rattle.mill_model.specs.Columns.{Rises, order_at}
-use Rattle.slab_price.specs.Bounds.{HasColour, HaveColours, plus_of, ArePlus, AreRests}
+use Rattle.slab_price.specs.Bounds.{HasColour, HaveColours, plus_of, ArePlus}
 use Rattle.mill_model.specs.Groupings.{Groups, gain_at}
-use Rattle.slab_price.specs.Parts.{IsPart, left_of}
-use Rattle.slab_price.proofs.Parts.{left_more}
 
 -- ---- by colours
 
@@ -85,35 +81,4 @@ plus_more m g at plus more lt known covers sign little a = record { size = omega
     small c i = elim (cases_eq c (order_at m at).colour) [
       | inl e ↦ rw e (rw (get_or-set_same plus (order_at m at).colour (get_or plus (order_at m at).colour (pos 0) +ℤ more) (pos 0) inside) (omega (arith, ints, little, lt, a.small (order_at m at).colour known)))
       | inr n ↦ rw (get_or-set_other plus (order_at m at).colour c (get_or plus (order_at m at).colour (pos 0) +ℤ more) (pos 0) n) (omega (arith, lt, a.small c i))
-    ]
-
--- ---- along the queue
-
--- one group more
-pub rests_more : (g : Groups) (queue : List ℕ) (done : ℕ) (rest : List ℤ) (sum more : ℤ) → get_or rest done (pos 0) ≡ sum → gain_at g (get_or queue done 0) ≤ℤ more → pos 0 ≤ℤ more → unsigned_abs more ≤ 2 ^ 84
-    → AreRests g queue done rest → AreRests g queue (done + 1) (rest ++ (sum +ℤ more) ∷ [])
-rests_more g queue done rest sum more sum_is covers sign little a = record { size = length_push rest (sum +ℤ more) ∙ ap (λ n. n + 1) a.size; most = most; small = small }
-  where
-    before : (left : ℕ) → left ≤ done → get_or (rest ++ (sum +ℤ more) ∷ []) left (pos 0) ≡ get_or rest left (pos 0)
-    before left h = get_or-append rest ((sum +ℤ more) ∷ []) (pos 0) left (omega (arith, a.size))
-
-    last : get_or (rest ++ (sum +ℤ more) ∷ []) (done + 1) (pos 0) ≡ sum +ℤ more
-    last = ap (λ n. get_or (rest ++ (sum +ℤ more) ∷ []) n (pos 0)) (sym a.size) ∙ get_or-append_seam rest (sum +ℤ more) [] (pos 0)
-
-    most : (left : ℕ) (xs : List ℕ) → left ≤ done + 1 → IsPart xs (left_of queue left) → total_by (gain_at g) xs ≤ℤ get_or (rest ++ (sum +ℤ more) ∷ []) left (pos 0)
-    most left xs h part = elim (cases_eq left (done + 1)) [
-      | inl e ↦
-          let here : IsPart xs (get_or queue done 0 ∷ left_of queue done) = subst (λ (q : List ℕ). IsPart xs q) (ap (left_of queue) e ∙ left_more queue done) part in
-          omega (arith, ints, ap (λ n. get_or (rest ++ (sum +ℤ more) ∷ []) n (pos 0)) e, last, taken here)
-      | inr n ↦ omega (arith, ints, before left (omega arith), a.most left xs (omega arith) part)
-    ]
-      where
-        taken : IsPart xs (get_or queue done 0 ∷ left_of queue done) → total_by (gain_at g) xs ≤ℤ (sum +ℤ more)
-        taken (inl skip) = omega (arith, ints, a.most done xs (omega arith) skip, sum_is, sign)
-        taken (inr (ys, e, take)) = omega (arith, ints, ap (total_by (gain_at g)) e, a.most done ys (omega arith) take, sum_is, covers)
-
-    small : (left : ℕ) → left ≤ done + 1 → unsigned_abs (get_or (rest ++ (sum +ℤ more) ∷ []) left (pos 0)) ≤ left * 2 ^ 84
-    small left h = elim (cases_eq left (done + 1)) [
-      | inl e ↦ rw e (rw last (omega (arith, ints, little, sum_is, a.small done (omega arith))))
-      | inr n ↦ rw (before left (omega arith)) (a.small left (omega arith))
     ]

@@ -1,7 +1,8 @@
 -- The steps of the walk over the groups of a queue.
-use Rattle.std.proofs.Common.{◌≡◌, inl, inr, ℕ, ◌+◌, ◌-◌, ◌*◌, ◌^◌, ◌<◌, ◌≤◌, pos, ◌+ℤ◌, ◌≤ℤ◌, ℤ, List, [], ◌∷◌, ◌++◌, length, get_or, take, refl, sym, subst, ap, ◌∙◌, arith, append_assoc, append-nil}
+use Rattle.std.proofs.Common.{◌≡◌, inl, inr, ℕ, zero, suc, ◌+◌, ◌-◌, ◌*◌, ◌^◌, ◌<◌, ◌≤◌, pos, ◌+ℤ◌, ◌≤ℤ◌, ℤ, true, eqb, List, [], ◌∷◌, ◌++◌, length, get_or, take, refl, sym, subst, ap, ◌∙◌, arith, append_assoc, append-nil}
 use Rattle.std.specs.Prelude.{◌-ℤ◌, unsigned_abs}
-use Rattle.std.specs.List.{sum_by}
+use Rattle.std.specs.List.{sum_by, AllByRecursion}
+use Rattle.std.proofs.lemmas.Bool.{or_left, or_right, eq-eqb}
 use Rattle.std.proofs.lemmas.Int.{ints}
 use Rattle.std.proofs.lemmas.List.{length_push}
 use Rattle.std.proofs.lemmas.List.Sums.{sum_by-append, sum_by-cons, sum_by_push}
@@ -9,21 +10,24 @@ use Rattle.std.proofs.Math.Seq.{take-append_seam}
 use Rattle.mill_model.specs.declared.kind.Kind.{Kind}
 use Rattle.mill_model.specs.Mill.{Mill}
 use Rattle.mill_model.specs.SignedSums.{total_by}
-use Rattle.mill_model.specs.Columns.{IsLegalColumn, Rises, load}
-use Rattle.mill_model.specs.Groups.{members}
+use Rattle.mill_model.specs.Columns.{IsLegalColumn, Rises, has, load}
+use Rattle.mill_model.specs.Groups.{head_of, members}
 use Rattle.mill_model.specs.Prices.{Prices}
-use Rattle.mill_model.specs.Decisions.{Decision}
-use Rattle.mill_model.proofs.Groups.{members_rise}
+use Rattle.mill_model.specs.Decisions.{Decision, column_agrees}
+use Rattle.mill_model.proofs.Groups.{has-members, members_rise}
+use Rattle.mill_model.proofs.Judging.{has-append}
 use Rattle.mill_model.proofs.Signed.{total_by-append}
 use Rattle.slab_price.specs.Bounds.{AreEnds, AreQueued, IsMost}
 use Rattle.slab_price.specs.Excess.{excess}
 use Rattle.mill_model.specs.Gains.{gains_of, cost_of}
 use Rattle.mill_model.specs.Groupings.{Groups, AreGroups, weight_at, gain_at}
+use Rattle.slab_price.specs.Groupings.{IsApart}
 use Rattle.slab_price.specs.Parts.{IsPart, left_of}
 use Rattle.slab_price.specs.Searches.{AreChosen, IsBestFrom, IsBestOn, IsPack}
+use Rattle.slab_price.proofs.Colours.{has_all}
 use Rattle.slab_price.proofs.Excesses.{excess_split}
-use Rattle.slab_price.proofs.Parts.{left_more, part_nil, part_rises}
-use Rattle.slab_price.proofs.Queues.{rises_length}
+use Rattle.slab_price.proofs.Parts.{left_more, part_all, part_nil, part_rises}
+use Rattle.slab_price.proofs.Queues.{rises_below, rises_length}
 
 pub total_small : (f : ℕ → ℤ) (low high : ℕ) (xs : List ℕ) → Rises low high xs → ((x : ℕ) → x < high → unsigned_abs (f x) ≤ 2 ^ 84) → unsigned_abs (total_by f xs) ≤ length xs * 2 ^ 84
 total_small f low high [] r h = omega arith
@@ -38,6 +42,29 @@ popped xs ys zs y n pushed long rest =
     let size : length ys ≡ length xs + 1 = ap length pushed ∙ length_push xs y in
     let short : n - 1 ≡ length xs = omega arith in
     rest ∙ ap (λ k. take k ys) short ∙ ap (λ (us : List ℕ). take (length xs) us) pushed ∙ take-append_seam xs (y ∷ [])
+
+-- the last number of a rising list is the greatest
+pub rises_last : (low high : ℕ) (xs : List ℕ) (x k : ℕ) → Rises low high (xs ++ x ∷ []) → k < length xs → get_or xs k 0 < x
+rises_last low high [] x k r h = absurd (omega arith)
+rises_last low high (y ∷ ys) x zero r h = later ys r.2
+  where
+    later : (zs : List ℕ) → Rises (y + 1) high (zs ++ x ∷ []) → y < x
+    later [] q = omega (arith, q.0)
+    later (z ∷ zs) q = lower zs z (omega (arith, q.0)) q.2
+      where
+        lower : (us : List ℕ) (u : ℕ) → y < u → Rises (u + 1) high (us ++ x ∷ []) → y < x
+        lower [] u l q = omega (arith, q.0)
+        lower (v ∷ us) u l q = lower us v (omega (arith, q.0)) q.2
+rises_last low high (y ∷ ys) x (suc k) r h = rises_last (y + 1) high ys x k r.2 (omega arith)
+
+pub rises_end : (low high : ℕ) (xs : List ℕ) (x : ℕ) → Rises low high (xs ++ x ∷ []) → x < high
+rises_end low high [] x r = r.1
+rises_end low high (y ∷ ys) x r = rises_end (y + 1) high ys x r.2
+
+pub has_at : (xs : List ℕ) (k : ℕ) → k < length xs → has xs (get_or xs k 0) ≡ true
+has_at [] k h = absurd (omega arith)
+has_at (x ∷ xs) zero h = or_left (eqb x x) (has xs x) (eq-eqb x x refl)
+has_at (x ∷ xs) (suc k) h = or_right (eqb x (get_or xs k 0)) (has xs (get_or xs k 0)) (has_at xs k (omega arith))
 
 -- ---- what is chosen
 
@@ -68,6 +95,11 @@ module _ (m : Mill) (decisions : List Decision) (p : Prices) (g : Groups) (group
   -- the heads chosen, with some of those left, rise
   pub chosen_rises : (left : ℕ) (chosen : List ℕ) (weight : ℕ) (gain : ℤ) (more : List ℕ) → AreChosen g queue left chosen weight gain → IsPart more (left_of queue left) → Rises 0 (length m.orders) (chosen ++ more)
   chosen_rises left chosen weight gain more a part = part_rises 0 (length m.orders) (chosen ++ more) (left_of queue (length queue)) (a.part more part) queued.rises
+
+  -- and so they do with the next one
+  pub next_rises : (left : ℕ) (chosen : List ℕ) (weight : ℕ) (gain : ℤ) → AreChosen g queue (left + 1) chosen weight gain → Rises 0 (length m.orders) (chosen ++ get_or queue left 0 ∷ [])
+  next_rises left chosen weight gain a =
+      chosen_rises (left + 1) chosen weight gain (get_or queue left 0 ∷ []) a (subst (λ (q : List ℕ). IsPart (get_or queue left 0 ∷ []) q) (sym (left_more queue left)) (inr ([], refl, part_nil (left_of queue left))))
 
   pub chosen_small : (left : ℕ) (chosen : List ℕ) (weight : ℕ) (gain : ℤ) → length m.orders ≤ 250 → AreChosen g queue left chosen weight gain → unsigned_abs gain ≤ 2 ^ 92
   chosen_small left chosen weight gain few a =
@@ -141,3 +173,24 @@ module _ (m : Mill) (decisions : List Decision) (p : Prices) (g : Groups) (group
           let there : IsPart (get_or queue left 0 ∷ more) (left_of queue (left + 1)) = subst (λ (q : List ℕ). IsPart (get_or queue left 0 ∷ more) q) (sym (left_more queue left)) (inr (more, refl, part)) in
           let rises : Rises 0 (length m.orders) (chosen ++ get_or queue left 0 ∷ more) = chosen_rises (left + 1) chosen weight gain (get_or queue left 0 ∷ more) a there in
           omega (arith, heavy, legal.fits.weight, are.room kind legal.fits.kind, a.weight_is, groups.weights (chosen ++ get_or queue left 0 ∷ more) rises, sum_by-append (weight_at g) chosen (get_or queue left 0 ∷ more), sum_by-cons (weight_at g) (get_or queue left 0) more)
+
+  -- the decisions keep the group apart from one that is chosen
+  pub best_apart : (left : ℕ) (chosen : List ℕ) (weight : ℕ) (gain most : ℤ) → AreChosen g queue (left + 1) chosen weight gain → IsApart decisions chosen (get_or queue left 0)
+      → IsBestFrom m decisions p g queue left chosen most → IsBestFrom m decisions p g queue (left + 1) chosen most
+  best_apart left chosen weight gain most a (other, chose, apart) later = best_step left chosen most (λ more part kind legal agrees. absurd (never more part kind agrees)) later
+    where
+      never : (more : List ℕ) → IsPart more (left_of queue left) → (kind : Kind) → column_agrees decisions (record { kind = kind; orders = members g.heads (chosen ++ get_or queue left 0 ∷ more) }) ≡ true → ⊥
+      never more part kind agrees =
+          let there : IsPart (get_or queue left 0 ∷ more) (left_of queue (left + 1)) = subst (λ (q : List ℕ). IsPart (get_or queue left 0 ∷ more) q) (sym (left_more queue left)) (inr (more, refl, part)) in
+          let all : IsPart (chosen ++ get_or queue left 0 ∷ more) (left_of queue (length queue)) = a.part (get_or queue left 0 ∷ more) there in
+          let rises : Rises 0 (length m.orders) (chosen ++ get_or queue left 0 ∷ more) = part_rises 0 (length m.orders) (chosen ++ get_or queue left 0 ∷ more) (left_of queue (length queue)) all queued.rises in
+          let own : AllByRecursion (λ h. head_of g.heads h ≡ h) (chosen ++ get_or queue left 0 ∷ more) = part_all (λ h. head_of g.heads h ≡ h) (chosen ++ get_or queue left 0 ∷ more) (left_of queue (length queue)) all queued.own in
+          let first : has (chosen ++ get_or queue left 0 ∷ more) other ≡ true = has-append chosen (get_or queue left 0 ∷ more) other ∙ or_left (has chosen other) (has (get_or queue left 0 ∷ more) other) chose in
+          let second : has (chosen ++ get_or queue left 0 ∷ more) (get_or queue left 0) ≡ true =
+          has-append chosen (get_or queue left 0 ∷ more) (get_or queue left 0) ∙ or_right (has chosen (get_or queue left 0)) (has (get_or queue left 0 ∷ more) (get_or queue left 0)) (or_left (eqb (get_or queue left 0) (get_or queue left 0)) (has more (get_or queue left 0)) (eq-eqb (get_or queue left 0) (get_or queue left 0) refl)) in
+          apart (record { kind = kind; orders = members g.heads (chosen ++ get_or queue left 0 ∷ more) }) agrees (member (chosen ++ get_or queue left 0 ∷ more) other rises own first) (member (chosen ++ get_or queue left 0 ∷ more) (get_or queue left 0) rises own second)
+        where
+          member : (taken : List ℕ) (x : ℕ) → Rises 0 (length m.orders) taken → AllByRecursion (λ h. head_of g.heads h ≡ h) taken → has taken x ≡ true → has (members g.heads taken) x ≡ true
+          member taken x rises own e =
+              let below : x < length m.orders = has_all (λ y. y < length m.orders) x taken (rises_below 0 (length m.orders) taken rises) e in
+              has-members g.heads taken x (omega (arith, below, groups.room.heads)) ∙ ap (has taken) (has_all (λ h. head_of g.heads h ≡ h) x taken own e) ∙ e

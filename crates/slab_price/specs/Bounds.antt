@@ -1,5 +1,5 @@
 -- What groups can still gain, at most.
-use Rattle.std.specs.Prelude.{◌≡◌, ◌⊎◌, ℕ, ◌+◌, ◌-◌, ◌*◌, ◌^◌, ◌<◌, ◌≤◌, ℤ, pos, ◌+ℤ◌, ◌-ℤ◌, ◌≤ℤ◌, unsigned_abs, Bool, true, false, cond, eqb, List, length, slice_index_or, All}
+use Rattle.std.specs.Prelude.{◌≡◌, ◌⊎◌, ℕ, ◌+◌, ◌-◌, ◌*◌, ◌/◌, ◌^◌, ◌<◌, ◌≤◌, ℤ, pos, ◌+ℤ◌, ◌-ℤ◌, ◌≤ℤ◌, unsigned_abs, Bool, true, false, cond, eqb, List, length, slice_index_or, All}
 use Rattle.std.specs.List.{AllByRecursion, sum_by}
 use Rattle.mill_model.specs.declared.kind.Kind.{Kind}
 use Rattle.mill_model.specs.Mill.{Mill}
@@ -74,6 +74,7 @@ pub record AreGathered (heads : List ℕ) (fits : List Bool) (low high : ℕ) (q
 -- heads of groups that go together, by their colours
 pub record AreQueued (m : Mill) (heads : List ℕ) (queue : List ℕ) : Type 0 where
   pub rises : Rises 0 (length m.orders) queue
+  pub own : AllByRecursion (λ head. head_of heads head ≡ head) queue
   pub colours : (taken : List ℕ) → IsPart taken queue → colours_of m (members heads taken) ≤ 2
 
 -- ---- bounds on what is left of the queue
@@ -88,14 +89,20 @@ pub record AreWeighed (g : Groups) (queue : List ℕ) : Type 0 where
   pub weights : All (λ head. head < length g.weights) queue
   pub small : (head : ℕ) → head < length g.gains → unsigned_abs (gain_at g head) ≤ 2 ^ 84
 
--- no part of the first so many groups of the queue gains more than the entry at the number
-pub record AreRests (g : Groups) (queue : List ℕ) (done : ℕ) (rest : List ℤ) : Type 0 where
-  pub size : length rest ≡ done + 1
-  pub most : (left : ℕ) (more : List ℕ) → left ≤ done → IsPart more (left_of queue left) → total_by (gain_at g) more ≤ℤ slice_index_or rest left (pos 0)
-  pub small : (left : ℕ) → left ≤ done → unsigned_abs (slice_index_or rest left (pos 0)) ≤ left * 2 ^ 84
+-- the columns of a table stand for multiples of a step of the load, as far as there are loads
+pub record AreSteps (loads step width : ℕ) : Type 0 where
+  pub some : 0 < step
+  pub wide : (loads - 1) / step < width
+  pub narrow : width ≤ loads
+  pub within : (column : ℕ) → column < width → column * step < loads
 
--- a row of the table for each number of groups, from the ends on, with an entry for each load: no part of the first so many groups gains more beside the load, with the end where they lead
-pub record IsTable (g : Groups) (queue : List ℕ) (ends table : List ℤ) : Type 0 where
-  pub most : (left load : ℕ) (more : List ℕ) → left * length ends + load < length table → IsPart more (left_of queue left) → load + sum_by (weight_at g) more < length ends
-      → (total_by (gain_at g) more +ℤ slice_index_or ends (load + sum_by (weight_at g) more) (pos 0)) ≤ℤ slice_index_or table (left * length ends + load) (pos 0)
+-- a size of slabs, and a value that is no more than the end of each load that they hold
+pub record IsEnd (ends : List ℤ) (size : ℕ) (value : ℤ) : Type 0 where
+  pub room : size < length ends
+  pub below : (load : ℕ) → load ≤ size → value ≤ℤ slice_index_or ends load (pos 0)
+
+-- a row of the table for each number of groups, with an entry for each column: no part of the first so many groups that such slabs hold beside the column's load gains more, with the value
+pub record IsTable (g : Groups) (queue : List ℕ) (ends : List ℤ) (step width : ℕ) (table : List ℤ) : Type 0 where
+  pub most : (left column : ℕ) (more : List ℕ) (size : ℕ) (value : ℤ) → column < width → left * width + column < length table → IsPart more (left_of queue left) → IsEnd ends size value → column * step + sum_by (weight_at g) more ≤ size
+      → (total_by (gain_at g) more +ℤ value) ≤ℤ slice_index_or table (left * width + column) (pos 0)
   pub small : (k : ℕ) → k < length table → unsigned_abs (slice_index_or table k (pos 0)) ≤ 2 ^ 100 + k * 2 ^ 84

@@ -1,5 +1,5 @@
 -- What the search for the column of greatest excess keeps.
-use Rattle.std.specs.Prelude.{◌≡◌, ◌⊎◌, ℕ, ◌+◌, ◌^◌, ◌<◌, ◌≤◌, ℤ, pos, ◌≤ℤ◌, unsigned_abs, true, List, [], ◌++◌, length, vec_capacity}
+use Rattle.std.specs.Prelude.{◌≡◌, ◌⊎◌, ℕ, ◌+◌, ◌*◌, ◌^◌, ◌<◌, ◌≤◌, ℤ, pos, ◌≤ℤ◌, unsigned_abs, true, List, [], ◌++◌, length, vec_capacity}
 use Rattle.std.specs.List.{sum_by}
 use Rattle.mill_model.specs.declared.kind.Kind.{Kind}
 use Rattle.mill_model.specs.Mill.{Mill, IsInLimits}
@@ -13,7 +13,7 @@ use Rattle.slab_price.specs.declared.best.Best.{Best}
 use Rattle.slab_price.specs.declared.frame.Frame.{Frame}
 use Rattle.slab_price.specs.declared.pairs.Picks.{Picks}
 use Rattle.slab_price.specs.declared.queue.Queue.{Queue}
-use Rattle.slab_price.specs.Bounds.{HaveColours, IsFrame, AreQueued, AreRests, IsTable}
+use Rattle.slab_price.specs.Bounds.{HaveColours, IsFrame, AreQueued, AreSteps, IsTable}
 use Rattle.slab_price.specs.Excess.{excess, BelongTogether, IsFound}
 use Rattle.slab_price.specs.Found.{Found}
 use Rattle.mill_model.specs.Gains.{gains_of}
@@ -21,7 +21,7 @@ use Rattle.mill_model.specs.Groupings.{Groups, weight_at, gain_at}
 use Rattle.slab_price.specs.Parts.{IsPart, left_of}
 
 -- a mill with all that is asked about it
-pub record IsQuestion (m : Mill) (listed : List ℕ) (decisions : Decisions) (p : Prices) : Type 0 where
+pub record IsTask (m : Mill) (listed : List ℕ) (decisions : Decisions) (p : Prices) : Type 0 where
   pub limits : IsInLimits m
   pub together : BelongTogether m listed decisions p
   pub sign : pos 0 ≤ℤ p.lambda
@@ -35,16 +35,20 @@ pub record IsPack (m : Mill) (p : Prices) (orders : List ℕ) (weight : ℕ) (ga
   pub gain_is : gain ≡ gains_of m p orders
   pub small : unsigned_abs gain ≤ 2 ^ 92
 
--- the queue of a walk, with bounds
+-- the table of a queue
+pub record IsTabulated (frame : Frame) (queue : Queue) : Type 0 where
+  pub steps : AreSteps (length frame.ends.items) queue.step queue.width
+  pub size : length queue.table.items ≡ (length queue.heads.items + 1) * queue.width
+  pub table : IsTable frame.groups queue.heads.items frame.ends.items queue.step queue.width queue.table.items
+
+-- the queue of a walk, with its table
 pub record IsQueue (m : Mill) (frame : Frame) (queue : Queue) : Type 0 where
   pub queued : AreQueued m frame.groups.heads (left_of queue.heads.items (length queue.heads.items))
-  pub rests : AreRests frame.groups queue.heads.items (length queue.heads.items) queue.rest.items
-  pub table : IsTable frame.groups queue.heads.items frame.ends.items queue.table.items
-  pub narrow : length queue.table.items ≤ 2 ^ 24
+  pub tabulated : IsTabulated frame queue
 
 -- what a walk goes by
 pub record IsHunt (m : Mill) (listed : List ℕ) (decisions : Decisions) (p : Prices) (frame : Frame) (queue : Queue) : Type 0 where
-  pub asked : IsQuestion m listed decisions p
+  pub asked : IsTask m listed decisions p
   pub framed : IsFrame m decisions.list p frame
   pub queued : IsQueue m frame queue
 
@@ -79,7 +83,7 @@ IsBestOfPair m decisions p first second most = (c : Column) → IsLegalColumn m 
 pub record HasQueueRoom (orders : ℕ) (queue : Queue) : Type 0 where
   pub fits : length queue.fits.items ≡ orders
   pub heads : orders ≤ vec_capacity queue.heads
-  pub rest : orders + 1 ≤ vec_capacity queue.rest
+  pub table : orders + 1 ≤ vec_capacity queue.table
 
 -- no head is chosen, and there is room for so many orders
 pub record HasPickRoom (orders : ℕ) (picks : Picks) : Type 0 where

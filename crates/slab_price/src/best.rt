@@ -1,3 +1,4 @@
+//! The best column so far.
 ghost use Rattle.std.specs.Prelude.{◌≡◌, ◌≤◌, ◌<ℤ◌, pos, IfSome, IfNone, length, vec_capacity};
 
 use crate::Found;

@@ -4,9 +4,9 @@ ghost use Rattle.mill_model.specs.declared.kind.Kind.{Kind};
 ghost use Rattle.mill_model.specs.Columns.{IsInStock, size_of};
 ghost use Rattle.slab_price.specs.Bounds.{AreEnds};
 ghost use Rattle.mill_model.specs.Gains.{cost_of};
-ghost use Rattle.slab_price.specs.Searches.{IsQuestion};
+ghost use Rattle.slab_price.specs.Searches.{IsTask};
 
-use crate::question::Question;
+use crate::task::Task;
 use mill_model::Kind;
 use std::alloc::{AllocError, Global};
 
@@ -28,7 +28,7 @@ fn greatest(sizes: &[u16], first: u16) -> u16
     most
 }
 
-impl Question<'_> {
+impl Task<'_> {
     /// At least the size of each slab.
     fn room(&self) -> u16
         ensures most { (kind : Kind) → IsInStock self.now.mill.now kind → size_of self.now.mill.now kind ≤ result }
@@ -39,7 +39,7 @@ impl Question<'_> {
 
     /// What a new slab that holds the load costs at least, with its sign turned.
     fn end_of_new(&self, load: u32) -> i128
-        requires question { IsQuestion self.now.mill.now self.now.table.now self.now.decisions.now self.now.prices.now }
+        requires task { IsTask self.now.mill.now self.now.table.now self.now.decisions.now self.now.prices.now }
         ensures most { (size : ℕ) → IsInStock self.now.mill.now (Kind.New size) → load ≤ size → (pos 0 -ℤ cost_of self.now.mill.now self.now.prices.now (Kind.New size)) ≤ℤ result }
         ensures small { unsigned_abs result ≤ 2 ^ 90 }
     {
@@ -51,7 +51,7 @@ impl Question<'_> {
 
     /// The cost of a surplus slab, with its sign turned, where it holds the load and costs less than what was found before.
     fn end_of_old(&self, load: u32, slab: u16, before: i128) -> i128
-        requires question { IsQuestion self.now.mill.now self.now.table.now self.now.decisions.now self.now.prices.now }
+        requires task { IsTask self.now.mill.now self.now.table.now self.now.decisions.now self.now.prices.now }
         requires stock { slab < length self.now.mill.now.yard }
         requires small { unsigned_abs before ≤ 2 ^ 90 }
         ensures most { load ≤ size_of self.now.mill.now (Kind.Old slab) → (pos 0 -ℤ cost_of self.now.mill.now self.now.prices.now (Kind.Old slab)) ≤ℤ result }
@@ -66,7 +66,7 @@ impl Question<'_> {
 
     /// What a slab that holds the load costs at least, with its sign turned.
     fn end(&self, load: u32) -> i128
-        requires question { IsQuestion self.now.mill.now self.now.table.now self.now.decisions.now self.now.prices.now }
+        requires task { IsTask self.now.mill.now self.now.table.now self.now.decisions.now self.now.prices.now }
         ensures most { (kind : Kind) → IsInStock self.now.mill.now kind → load ≤ size_of self.now.mill.now kind → (pos 0 -ℤ cost_of self.now.mill.now self.now.prices.now kind) ≤ℤ result }
         ensures small { unsigned_abs result ≤ 2 ^ 90 }
     {
@@ -80,7 +80,7 @@ impl Question<'_> {
 
     /// For each load up to the greatest size what a slab that holds it costs at least, with its sign turned.
     pub(crate) fn ends(&self, alloc: Global) -> Result<Vec<i128>, AllocError>
-        requires question { IsQuestion self.now.mill.now self.now.table.now self.now.decisions.now self.now.prices.now }
+        requires task { IsTask self.now.mill.now self.now.table.now self.now.decisions.now self.now.prices.now }
         ensures { IfOk result (λ ends. AreEnds self.now.mill.now self.now.prices.now ends.items) }
     {
         let room = u32::from(self.room());

@@ -1,3 +1,4 @@
+//! The column that pricing finds.
 ghost use Rattle.std.specs.Prelude.{◌≡◌};
 
 use mill_model::Kind;

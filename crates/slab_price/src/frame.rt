@@ -1,9 +1,10 @@
+//! What stands through a call of pricing.
 ghost use Rattle.std.specs.Prelude.{◌≡◌, ◌<◌, ◌≤◌, ◌^◌, ℕ, pos, IfOk, length, slice_index_or, unsigned_abs};
 ghost use Rattle.slab_price.specs.Bounds.{IsFrame, plus_of};
-ghost use Rattle.slab_price.specs.Searches.{IsQuestion};
+ghost use Rattle.slab_price.specs.Searches.{IsTask};
 
 use crate::groups::Groups;
-use crate::question::Question;
+use crate::task::Task;
 use std::alloc::{AllocError, Global};
 
 /// What stands through a call: the groups, for each load what a slab that holds it costs at least (with its sign turned), and for
@@ -32,10 +33,10 @@ impl Frame {
     }
 }
 
-impl Question<'_> {
+impl Task<'_> {
     /// What stands through a call.
     pub(crate) fn frame(&self, alloc: Global) -> Result<Frame, AllocError>
-        requires question { IsQuestion self.now.mill.now self.now.table.now self.now.decisions.now self.now.prices.now }
+        requires task { IsTask self.now.mill.now self.now.table.now self.now.decisions.now self.now.prices.now }
         ensures { IfOk result (IsFrame self.now.mill.now self.now.decisions.now.list self.now.prices.now) }
     {
         let mut groups = Groups::new(alloc, self.mill.orders().len())?;

@@ -1,6 +1,7 @@
 //! Pricing: the column of greatest excess (least reduced cost) over all columns that the decisions allow.
 #![tactic(auto)]
 
+mod apart;
 mod best;
 mod ends;
 mod found;
@@ -11,10 +12,9 @@ mod offer;
 mod pairs;
 mod plus;
 mod pricing;
-mod question;
 mod queue;
-mod rests;
 mod table;
+mod task;
 #[cfg(test)]
 mod tests;
 mod walk;

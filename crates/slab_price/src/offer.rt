@@ -5,16 +5,16 @@ ghost use Rattle.mill_model.specs.Columns.{IsInStock, IsLegalColumn, size_of};
 ghost use Rattle.mill_model.specs.Decisions.{column_agrees};
 ghost use Rattle.mill_model.specs.LeastSizes.{IsOfLeastSize};
 ghost use Rattle.mill_model.specs.Gains.{cost_of};
-ghost use Rattle.slab_price.specs.Searches.{IsQuestion, IsPack, IsBest, IsBestOn};
+ghost use Rattle.slab_price.specs.Searches.{IsTask, IsPack, IsBest, IsBestOn};
 
 use crate::best::Best;
-use crate::question::Question;
+use crate::task::Task;
 use mill_model::Kind;
 
-impl Question<'_> {
+impl Task<'_> {
     /// Takes the orders on a slab that holds them, where that column is allowed and better than the best.
     fn offer_on(&self, kind: Kind, weight: u32, gain: i128, orders: &[u16], best: &mut Best)
-        requires question { IsQuestion self.now.mill.now self.now.table.now self.now.decisions.now self.now.prices.now }
+        requires task { IsTask self.now.mill.now self.now.table.now self.now.decisions.now self.now.prices.now }
         requires pack { IsPack self.now.mill.now self.now.prices.now orders.now weight gain }
         requires stock { IsInStock self.now.mill.now kind }
         requires holds { weight ≤ size_of self.now.mill.now kind }
@@ -38,7 +38,7 @@ impl Question<'_> {
 
     /// The same on the least new slab that holds them.
     fn offer_new(&self, weight: u32, gain: i128, orders: &[u16], best: &mut Best)
-        requires question { IsQuestion self.now.mill.now self.now.table.now self.now.decisions.now self.now.prices.now }
+        requires task { IsTask self.now.mill.now self.now.table.now self.now.decisions.now self.now.prices.now }
         requires pack { IsPack self.now.mill.now self.now.prices.now orders.now weight gain }
         requires best { IsBest self.now.mill.now self.now.decisions.now.list self.now.prices.now best.old }
         requires room { length self.now.mill.now.orders ≤ vec_capacity best.old.orders }
@@ -54,7 +54,7 @@ impl Question<'_> {
 
     /// The same on a surplus slab, if it holds them.
     fn offer_old(&self, slab: u16, weight: u32, gain: i128, orders: &[u16], best: &mut Best)
-        requires question { IsQuestion self.now.mill.now self.now.table.now self.now.decisions.now self.now.prices.now }
+        requires task { IsTask self.now.mill.now self.now.table.now self.now.decisions.now self.now.prices.now }
         requires pack { IsPack self.now.mill.now self.now.prices.now orders.now weight gain }
         requires stock { slab < length self.now.mill.now.yard }
         requires best { IsBest self.now.mill.now self.now.decisions.now.list self.now.prices.now best.old }
@@ -71,7 +71,7 @@ impl Question<'_> {
 
     /// The same on each surplus slab.
     fn offer_yard(&self, weight: u32, gain: i128, orders: &[u16], best: &mut Best)
-        requires question { IsQuestion self.now.mill.now self.now.table.now self.now.decisions.now self.now.prices.now }
+        requires task { IsTask self.now.mill.now self.now.table.now self.now.decisions.now self.now.prices.now }
         requires pack { IsPack self.now.mill.now self.now.prices.now orders.now weight gain }
         requires best { IsBest self.now.mill.now self.now.decisions.now.list self.now.prices.now best.old }
         requires room { length self.now.mill.now.orders ≤ vec_capacity best.old.orders }
@@ -88,7 +88,7 @@ impl Question<'_> {
 
     /// Takes the orders on the best slab, where that column is allowed and better than the best.
     pub(crate) fn offer(&self, weight: u32, gain: i128, orders: &[u16], best: &mut Best)
-        requires question { IsQuestion self.now.mill.now self.now.table.now self.now.decisions.now self.now.prices.now }
+        requires task { IsTask self.now.mill.now self.now.table.now self.now.decisions.now self.now.prices.now }
         requires pack { IsPack self.now.mill.now self.now.prices.now orders.now weight gain }
         requires best { IsBest self.now.mill.now self.now.decisions.now.list self.now.prices.now best.old }
         requires room { length self.now.mill.now.orders ≤ vec_capacity best.old.orders }

@@ -1,13 +1,14 @@
+//! The pairs of colours, one after the other.
 ghost use Rattle.std.specs.Prelude.{◌≡◌, ◌≤◌, ℕ, pos, ◌≤ℤ◌, IfOk, length, []};
 ghost use Rattle.std.specs.Bool.{OnTrue};
 ghost use Rattle.slab_price.specs.Bounds.{IsFrame};
 ghost use Rattle.slab_price.specs.Excess.{IsGreatest};
-ghost use Rattle.slab_price.specs.Searches.{IsQuestion, IsHunt, IsBest, IsBestFrom, IsBestOfPair, HasQueueRoom, HasPickRoom};
+ghost use Rattle.slab_price.specs.Searches.{IsTask, IsHunt, IsBest, IsBestFrom, IsBestOfPair, HasQueueRoom, HasPickRoom};
 
 use crate::best::Best;
 use crate::frame::Frame;
-use crate::question::Question;
 use crate::queue::Queue;
+use crate::task::Task;
 use crate::walk::Hunt;
 use mill_model::Kind;
 use std::alloc::{AllocError, Global};
@@ -40,10 +41,10 @@ impl Picks {
     }
 }
 
-impl Question<'_> {
+impl Task<'_> {
     /// Whether no column of the two colours exceeds more than the best.
     fn is_hopeless(&self, frame: &Frame, first: u16, second: u16, best: i128) -> bool
-        requires question { IsQuestion self.now.mill.now self.now.table.now self.now.decisions.now self.now.prices.now }
+        requires task { IsTask self.now.mill.now self.now.table.now self.now.decisions.now self.now.prices.now }
         requires frame { IsFrame self.now.mill.now self.now.decisions.now.list self.now.prices.now frame.now }
         requires first { first ≤ self.now.mill.now.colours }
         requires second { second ≤ self.now.mill.now.colours }
@@ -63,7 +64,7 @@ impl Question<'_> {
         ensures greatest { IsBestFrom self.now.mill.now self.now.decisions.now.list self.now.prices.now frame.now.groups queue.now.heads.items (length queue.now.heads.items) [] picks.new.best.excess }
     {
         let hunt = Hunt {
-            question: self,
+            task: self,
             frame,
             queue,
         };
@@ -87,7 +88,7 @@ impl Question<'_> {
         queue: &mut Queue,
         picks: &mut Picks,
     )
-        requires question { IsQuestion self.now.mill.now self.now.table.now self.now.decisions.now self.now.prices.now }
+        requires task { IsTask self.now.mill.now self.now.table.now self.now.decisions.now self.now.prices.now }
         requires frame { IsFrame self.now.mill.now self.now.decisions.now.list self.now.prices.now frame.now }
         requires first { first ≤ self.now.mill.now.colours }
         requires second { second ≤ self.now.mill.now.colours }
@@ -109,7 +110,7 @@ impl Question<'_> {
 
     /// Improves the best by the columns of one colour and another that isn't before it.
     fn price_pairs(&self, frame: &Frame, first: u16, queue: &mut Queue, picks: &mut Picks)
-        requires question { IsQuestion self.now.mill.now self.now.table.now self.now.decisions.now self.now.prices.now }
+        requires task { IsTask self.now.mill.now self.now.table.now self.now.decisions.now self.now.prices.now }
         requires frame { IsFrame self.now.mill.now self.now.decisions.now.list self.now.prices.now frame.now }
         requires first { first ≤ self.now.mill.now.colours }
         requires queue { HasQueueRoom (length self.now.mill.now.orders) queue.old }
@@ -129,7 +130,7 @@ impl Question<'_> {
 
     /// Improves the best by all columns.
     pub(crate) fn price(&self, frame: &Frame, queue: &mut Queue, picks: &mut Picks)
-        requires question { IsQuestion self.now.mill.now self.now.table.now self.now.decisions.now self.now.prices.now }
+        requires task { IsTask self.now.mill.now self.now.table.now self.now.decisions.now self.now.prices.now }
         requires frame { IsFrame self.now.mill.now self.now.decisions.now.list self.now.prices.now frame.now }
         requires queue { HasQueueRoom (length self.now.mill.now.orders) queue.old }
         requires picks { HasPickRoom (length self.now.mill.now.orders) picks.old }

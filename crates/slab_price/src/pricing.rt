@@ -1,10 +1,11 @@
+//! The column of greatest excess.
 ghost use Rattle.std.specs.Prelude.{pos, ◌≤ℤ◌, IfOk, IfSome, IfNone};
 ghost use Rattle.slab_price.specs.Excess.{BelongTogether, IsGreatest, IsWorst};
 
 use crate::Found;
 use crate::pairs::Picks;
-use crate::question::Question;
 use crate::queue::Queue;
+use crate::task::Task;
 use loss_table::LossTable;
 use mill_model::{Mill, Prices};
 use slab_decide::Decisions;
@@ -27,15 +28,15 @@ pub fn worst(
     ensures none { IfOk result (λ answer. IfNone answer (IsGreatest mill.now decisions.now.list prices.now (pos 0))) }
 {
     let count = mill.orders().len();
-    let question = Question {
+    let task = Task {
         mill,
         table,
         decisions,
         prices,
     };
-    let frame = question.frame(alloc)?;
+    let frame = task.frame(alloc)?;
     let mut queue = Queue::new(alloc, count, frame.ends.len())?;
     let mut picks = Picks::new(alloc, count)?;
-    question.price(&frame, &mut queue, &mut picks);
+    task.price(&frame, &mut queue, &mut picks);
     Ok(picks.best.found())
 }
