@@ -8,8 +8,7 @@ use Rattle.mill_model.specs.declared.limits.Limits.{Limits}
 use Rattle.mill_model.specs.Mill.{Mill}
 use Rattle.mill_model.specs.Plans.{Plan, IsLegal, IsAttained, sums_of}
 use Rattle.mill_model.specs.Limits.{AtMost, IsWithin}
-use Rattle.mill_model.specs.Trees.{IsRefutation}
-use Rattle.mill_model.specs.declared.steps.Step.{Step}
+use Rattle.mill_model.specs.Marks.{MarkedSteps, IsMarkedRefutation}
 use Rattle.mill_model.specs.Fronts.{IsUndominated, LossesRise, IsFront, Point, below, FallsBelow, count_before, IsGoodPoint, IsGoodFrom, last_sums, IsGoodWhole, sums_list}
 use Rattle.mill_model.proofs.TreeLaws.{tree_refutes}
 
@@ -31,7 +30,7 @@ Contains-cases y xs x c = go c.0 c.1 c.2
 -- ---- one tree
 
 -- where a tree refutes the limits, no attained pair is within them
-no_pair : (m : Mill) (limits : Limits) (steps : List Step) (x : Sums) → IsRefutation m limits [] steps → IsAttained m x → IsWithin x limits → ⊥
+no_pair : (m : Mill) (limits : Limits) (steps : MarkedSteps) (x : Sums) → IsMarkedRefutation m limits [] steps → IsAttained m x → IsWithin x limits → ⊥
 no_pair m limits steps x refutation attained within = tree_refutes m limits refutation.tree [] attained.0 tt refutation.refutes attained.1 tt (let W : Sums → Type 0 = λ y. IsWithin y limits in subst W (sym attained.2) within)
 
 -- a count that falls below the one before is within one less than it
@@ -126,11 +125,11 @@ losses_rise m before (point ∷ []) good = tt
 losses_rise m before (point ∷ next ∷ points) good = (good.1.0.loss, losses_rise m (Some point.sums) (next ∷ points) good.1)
 
 -- the last tree leaves nothing
-none_left : (m : Mill) (points : List Point) (last : List Step) → IsGoodWhole m points last → NoneLeft m (last_sums None points)
+none_left : (m : Mill) (points : List Point) (last : MarkedSteps) → IsGoodWhole m points last → NoneLeft m (last_sums None points)
 none_left m points last whole x attained falls =
     no_pair m (record { loss = None; count = below (count_before (last_sums None points)) }) last x whole.rest attained (record { loss = tt; count = within_below x.count (last_sums None points) falls })
 
-pub gap_law : (m : Mill) (points : List Point) (last : List Step) → IsGoodWhole m points last → IsFront m (sums_list points)
+pub gap_law : (m : Mill) (points : List Point) (last : MarkedSteps) → IsGoodWhole m points last → IsFront m (sums_list points)
 gap_law m points last whole = record {
   rise = losses_rise m None points whole.head;
   exact = λ x. (
@@ -140,7 +139,7 @@ gap_law m points last whole = record {
 }
 
 -- without a point there is no legal plan
-pub no_plan : (m : Mill) (last : List Step) → IsGoodWhole m [] last → (p : Plan) → IsLegal m p → ⊥
+pub no_plan : (m : Mill) (last : MarkedSteps) → IsGoodWhole m [] last → (p : Plan) → IsLegal m p → ⊥
 no_plan m last whole p legal = none_left m [] last whole (sums_of m p) (p, legal, refl) tt
 
 -- ---- a head alone

@@ -3,11 +3,10 @@ use Rattle.std.proofs.Common.{◌≡◌, ℕ, ◌≤◌, ℤ, pos, List, [], ◌
 use Rattle.std.proofs.lemmas.Int.{ints}
 use Rattle.std.proofs.lemmas.Bool.{cases_lt}
 use Rattle.mill_model.specs.declared.sums.Sums.{Sums}
-use Rattle.mill_model.specs.declared.steps.Step.{Step}
 use Rattle.mill_model.specs.Mill.{Mill}
 use Rattle.mill_model.specs.Plans.{Plan, IsLegal, IsInOrder, sums_of}
 use Rattle.mill_model.specs.Limits.{AtMost}
-use Rattle.mill_model.specs.Trees.{IsRefutation}
+use Rattle.mill_model.specs.Marks.{MarkedSteps, IsMarkedRefutation}
 use Rattle.mill_model.specs.Fronts.{Point, below, Exceeds, FallsBelow, count_before, IsGoodPoint, IsGoodFrom, last_sums}
 use Rattle.mill_model.proofs.TreeLaws.{tree_refutes}
 
@@ -37,11 +36,11 @@ good_replace m before point plan good legal order same fewer = record {
   legal = legal;
   sums = refl;
   order = order;
-  steps = subst (λ n. IsRefutation m (record { loss = below (Some n); count = below (count_before before) }) [] point.steps) (sym same) good.steps;
+  steps = subst (λ n. IsMarkedRefutation m (record { loss = below (Some n); count = below (count_before before) }) [] point.steps) (sym same) good.steps;
 }
 
 -- a tree for one less than a loss shows that the loss is least, under the count limit
-pub tree_least : (m : Mill) (loss : ℕ) (count : Option ℤ) (steps : List Step) (p : Plan) → IsRefutation m (record { loss = below (Some loss); count = count }) [] steps → IsLegal m p → AtMost (Some (pos (sums_of m p).count)) count → loss ≤ (sums_of m p).loss
+pub tree_least : (m : Mill) (loss : ℕ) (count : Option ℤ) (steps : MarkedSteps) (p : Plan) → IsMarkedRefutation m (record { loss = below (Some loss); count = count }) [] steps → IsLegal m p → AtMost (Some (pos (sums_of m p).count)) count → loss ≤ (sums_of m p).loss
 tree_least m loss count steps p refutation legal within = elim (cases_lt (sums_of m p).loss loss) [
   | inl h ↦ absurd (tree_refutes m (record { loss = below (Some loss); count = count }) refutation.tree [] p tt refutation.refutes legal tt (record { loss = omega (arith, ints); count = within }))
   | inr h ↦ h

@@ -3,10 +3,10 @@ use Rattle.std.specs.Prelude.{◌≡◌, ℕ, ℤ, pos, ◌-ℤ◌, ◌<◌, ◌
 use Rattle.std.specs.List.{Contains}
 use Rattle.mill_model.specs.declared.sums.Sums.{Sums}
 use Rattle.mill_model.specs.declared.ask.Ask.{Ask}
-use Rattle.mill_model.specs.declared.steps.Step.{Step}
 use Rattle.mill_model.specs.Mill.{Mill}
 use Rattle.mill_model.specs.Plans.{Plan, IsLegal, IsAttained, IsInOrder, sums_of}
-use Rattle.mill_model.specs.Trees.{IsRefutation, IsOpenTree}
+use Rattle.mill_model.specs.Trees.{IsOpenTree}
+use Rattle.mill_model.specs.Marks.{MarkedSteps, IsMarkedRefutation}
 
 -- the one is at most the other in both numbers, and they differ
 abbrev pub Dominates : Sums → Sums → Type 0
@@ -46,11 +46,11 @@ pub record IsPoint (m : Mill) (point : Sums × Plan) : Type 0 where
 abbrev pub pairs_of : List (Sums × Plan) → List Sums
 pairs_of points = map (λ point. point.0) points
 
--- a point of a certificate: its sums, a plan that attains them, and the steps of a tree that refutes less loss
+-- a point of a certificate: its sums, a plan that attains them, and a marked tree that refutes less loss
 pub record Point : Type 0 where
   pub sums : Sums
   pub plan : Plan
-  pub steps : List Step
+  pub steps : MarkedSteps
 
 -- one less than a number, where there is one
 abbrev pub below : Option ℕ → Option ℤ
@@ -77,7 +77,7 @@ pub record IsGoodPoint (m : Mill) (before : Option Sums) (point : Point) : Type 
   pub legal : IsLegal m point.plan
   pub sums : sums_of m point.plan ≡ point.sums
   pub order : IsInOrder point.plan
-  pub steps : IsRefutation m (record { loss = below (Some point.sums.loss); count = below (count_before before) }) [] point.steps
+  pub steps : IsMarkedRefutation m (record { loss = below (Some point.sums.loss); count = below (count_before before) }) [] point.steps
 
 -- the points, one after another, from the one before on
 abbrev pub IsGoodFrom : Mill → Option Sums → List Point → Type 0
@@ -92,15 +92,15 @@ abbrev pub last_sums : Option Sums → List Point → Option Sums
 last_sums before [] = before
 last_sums before (point ∷ points) = last_sums (Some point.sums) points
 
--- the parts of a whole certificate: its points, and the steps of the last tree
+-- the parts of a whole certificate: its points, and the last tree
 pub record Whole : Type 0 where
   pub points : List Point
-  pub last : List Step
+  pub last : MarkedSteps
 
 -- a head, and a tree that refutes each plan of fewer new slabs than the last point, or each plan
-pub record IsGoodWhole (m : Mill) (points : List Point) (last : List Step) : Type 0 where
+pub record IsGoodWhole (m : Mill) (points : List Point) (last : MarkedSteps) : Type 0 where
   pub head : IsGoodHead m points
-  pub rest : IsRefutation m (record { loss = None; count = below (count_before (last_sums None points)) }) [] last
+  pub rest : IsMarkedRefutation m (record { loss = None; count = below (count_before (last_sums None points)) }) [] last
 
 -- a head, and an unfinished tree
 pub record IsGoodCut (m : Mill) (points : List Point) (open_tree : List (Option Ask)) : Type 0 where

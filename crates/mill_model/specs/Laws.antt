@@ -12,7 +12,11 @@ use Rattle.mill_model.specs.Plans.{Plan, slab, IsLegal, IsAttained, sums_of}
 use Rattle.mill_model.specs.Prices.{Prices, Refutes}
 use Rattle.mill_model.specs.Decisions.{Decision, IsAsk, AreAsks, PlanAgrees, answer_of, agrees, column_agrees}
 use Rattle.mill_model.specs.Limits.{IsWithin, AreSmaller}
-use Rattle.mill_model.specs.Trees.{Plain, preorder, IsRefutation, IsOpenTree, most_nodes}
+use Rattle.mill_model.specs.Trees.{Unmarked, Tree, EverySplit, preorder, marks_of, IsRefutation, IsOpenTree, most_nodes}
+use Rattle.mill_model.specs.Marks.{MarkedSteps, HasOneMarkEach, IsMarkedRefutation, AreAllPlain}
+use Rattle.mill_model.specs.declared.mark.Mark.{Mark}
+use Rattle.mill_model.specs.declared.mark.Mark.TheVariants.{Spread}
+use Rattle.mill_model.specs.Shares.{Shown}
 use Rattle.mill_model.specs.Columns.{Column, size_of}
 use Rattle.mill_model.specs.Judging.{first_broken}
 use Rattle.mill_model.specs.Assignments.{Assignment, Agrees, Follows}
@@ -55,11 +59,11 @@ TreesServeSmallerLimits = (m : Mill) (smaller limits : Limits) (decisions : List
 
 -- The points of a whole certificate are the Pareto front.
 abbrev pub WholeCertificatesGiveTheFront : Type 0
-WholeCertificatesGiveTheFront = (m : Mill) (points : List Point) (last : List Step) → IsGoodWhole m points last → IsFront m (sums_list points)
+WholeCertificatesGiveTheFront = (m : Mill) (points : List Point) (last : MarkedSteps) → IsGoodWhole m points last → IsFront m (sums_list points)
 
 -- Where a whole certificate has no point, no plan is legal.
 abbrev pub NoPointMeansNoPlan : Type 0
-NoPointMeansNoPlan = (m : Mill) (last : List Step) (p : Plan) → IsGoodWhole m [] last → IsLegal m p → ⊥
+NoPointMeansNoPlan = (m : Mill) (last : MarkedSteps) (p : Plan) → IsGoodWhole m [] last → IsLegal m p → ⊥
 
 -- In a good head each point but the last is undominated, and the last has the least loss among the pairs that fall below the point before it.
 abbrev pub GoodHeadsBeginTheFront : Type 0
@@ -76,6 +80,21 @@ abbrev pub NoCoverWhereRefuted : Type 0
 NoCoverWhereRefuted = (m : Mill) (limits : Limits) (decisions : List Decision) (prices : Prices) (d : ℕ) (parts : List Part) →
     Refutes m limits decisions prices → IsCover m limits decisions d parts → ⊥
 
+-- A cover within limits is one within all greater limits.
+abbrev pub CoversServeGreaterLimits : Type 0
+CoversServeGreaterLimits = (m : Mill) (limits greater : Limits) (decisions : List Decision) (d : ℕ) (parts : List Part) →
+    AreSmaller limits greater → IsCover m limits decisions d parts → IsCover m greater decisions d parts
+
+-- Where a question of a marked tree shows a cover, no prices refute the tree's limits under the decisions above it.
+abbrev pub ShownCoversExcludePrices : Type 0
+ShownCoversExcludePrices = (m : Mill) (limits : Limits) (decisions : List Decision) (s : MarkedSteps) (refutation : IsMarkedRefutation m limits decisions s) →
+    EverySplit (λ mark _ above. (shown : Shown) (prices : Prices) → mark ≡ Spread shown → Refutes m limits above prices → ⊥) refutation.tree decisions
+
+-- Plain marks claim nothing: with them, steps are those of a marked tree exactly where they are those of a tree.
+abbrev pub PlainMarksClaimNothing : Type 0
+PlainMarksClaimNothing = (m : Mill) (limits : Limits) (decisions : List Decision) (s : MarkedSteps) → HasOneMarkEach s → AreAllPlain s.marks →
+    IsMarkedRefutation m limits decisions s ↔ IsRefutation m limits decisions s.steps
+
 -- A mill has at most one Pareto front.
 abbrev pub OneFront : Type 0
 OneFront = (m : Mill) (xs ys : List Sums) → IsFront m xs → IsFront m ys → xs ≡ ys
@@ -88,7 +107,12 @@ TreesHaveFewNodes =
 
 -- A list of steps begins with at most one tree.
 abbrev pub StepsBeginOneTree : Type 0
-StepsBeginOneTree = (t u : Plain Prices) (xs ys : List Step) → preorder t ++ xs ≡ preorder u ++ ys → (t ≡ u) × (xs ≡ ys)
+StepsBeginOneTree = (t u : Unmarked Prices) (xs ys : List Step) → preorder t ++ xs ≡ preorder u ++ ys → (t ≡ u) × (xs ≡ ys)
+
+-- Steps and marks begin with at most one marked tree.
+abbrev pub MarkedStepsBeginOneTree : Type 0
+MarkedStepsBeginOneTree = (t u : Tree Mark Prices) (xs ys : List Step) (marks others : List Mark) →
+    preorder t ++ xs ≡ preorder u ++ ys → marks_of t ++ marks ≡ marks_of u ++ others → (t ≡ u) × (xs ≡ ys) × (marks ≡ others)
 
 -- A legal plan that agrees with decisions agrees with what follows from them.
 abbrev pub PlansAgreeWithWhatFollows : Type 0

@@ -7,6 +7,8 @@ pub mod Decisions
 pub mod Prices
 pub mod Trees
 pub mod Covers
+pub mod Shares
+pub mod Marks
 pub mod Fronts
 pub mod Assignments
 pub mod Closures

@@ -16,8 +16,8 @@ pub data Tree (M E : Type 0) : Type 0 where
   Split : M → Ask → Tree M E → Tree M E → Tree M E
 
 -- a tree without marks
-abbrev pub Plain : Type 0 → Type 0
-Plain E = Tree (Unit {0}) E
+abbrev pub Unmarked : Type 0 → Type 0
+Unmarked E = Tree (Unit {0}) E
 
 -- a question that the decisions don't answer
 abbrev pub IsFresh : Ask → List Decision → Type 0
@@ -52,6 +52,11 @@ step_of (Put o s) = PutStep o s
 abbrev pub preorder : {M : Type 0} → Tree M Prices → List Step
 preorder = listing Leaf (λ _. step_of)
 
+-- the marks in the order of the questions
+abbrev pub marks_of : {M E : Type 0} → Tree M E → List M
+marks_of (End e) = []
+marks_of (Split mark ask if_yes if_no) = mark ∷ (marks_of if_yes ++ marks_of if_no)
+
 -- the outline of an unfinished tree: a question, or none at an end
 abbrev pub outline : {M E : Type 0} → Tree M E → List (Option Ask)
 outline = listing (λ _. None) (λ _. Some)
@@ -62,13 +67,13 @@ RefutingTree m limits = IsTree m (λ p decisions. Refutes m limits decisions p)
 
 -- the steps are those of a tree that refutes the limits under the decisions
 pub record IsRefutation (m : Mill) (limits : Limits) (decisions : List Decision) (steps : List Step) : Type 0 where
-  pub tree : Plain Prices
+  pub tree : Unmarked Prices
   pub steps_are : steps ≡ preorder tree
   pub refutes : RefutingTree m limits tree decisions
 
 -- the outline is that of an unfinished tree
 pub record IsOpenTree (m : Mill) (decisions : List Decision) (steps : List (Option Ask)) : Type 0 where
-  pub tree : Plain (Unit {0})
+  pub tree : Unmarked (Unit {0})
   pub steps_are : steps ≡ outline tree
   pub fresh : IsTree m (λ _ _. Unit {0}) tree decisions
 

@@ -1,6 +1,6 @@
 //! The laws that join the definitions. Each is the contract of a function that does nothing.
 
-ghost use Rattle.mill_model.specs.Laws.{PricesExcludePlans, PlansAnswerOnce, PlansAgreeBySlabs, TreesExcludePlans, TreesServeSmallerLimits, WholeCertificatesGiveTheFront, NoPointMeansNoPlan, GoodHeadsBeginTheFront, NoCoverWhereRefuted, OneFront, TreesHaveFewNodes, StepsBeginOneTree, PlansAgreeWithWhatFollows, ColumnsAgreeWithWhatFollows, SizesAreLossAndWeights, LegalPlansBreakNoRule, PlainlyRefutedLimitsAreRefuted};
+ghost use Rattle.mill_model.specs.Laws.{PricesExcludePlans, PlansAnswerOnce, PlansAgreeBySlabs, TreesExcludePlans, TreesServeSmallerLimits, WholeCertificatesGiveTheFront, NoPointMeansNoPlan, GoodHeadsBeginTheFront, NoCoverWhereRefuted, OneFront, TreesHaveFewNodes, StepsBeginOneTree, MarkedStepsBeginOneTree, CoversServeGreaterLimits, ShownCoversExcludePrices, PlainMarksClaimNothing, PlansAgreeWithWhatFollows, ColumnsAgreeWithWhatFollows, SizesAreLossAndWeights, LegalPlansBreakNoRule, PlainlyRefutedLimitsAreRefuted};
 
 /// The sizes of a legal plan's slabs sum to its loss and the weights of all orders: the loss isn't cut off at 0.
 pub fn sizes_are_loss_and_weights()
@@ -62,6 +62,21 @@ pub fn steps_begin_one_tree()
     ensures { StepsBeginOneTree }
 {}
 
+/// Steps and marks begin with at most one marked tree.
+pub fn marked_steps_begin_one_tree()
+    ensures { MarkedStepsBeginOneTree }
+{}
+
+/// Where a question shows a cover, no prices refute.
+pub fn shown_covers_exclude_prices()
+    ensures { ShownCoversExcludePrices }
+{}
+
+/// Plain marks claim nothing, so a certificate of version 1 is one whose marks are all plain.
+pub fn plain_marks_claim_nothing()
+    ensures { PlainMarksClaimNothing }
+{}
+
 /// The gap law: the points of a good whole certificate are the Pareto front.
 pub fn whole_certificates_give_the_front()
     ensures { WholeCertificatesGiveTheFront }
@@ -85,4 +100,9 @@ pub fn plainly_refuted_limits_are_refuted()
 /// A fractional cover and refuting prices exclude each other (weak duality).
 pub fn no_cover_where_refuted()
     ensures { NoCoverWhereRefuted }
+{}
+
+/// A fractional cover serves greater limits.
+pub fn covers_serve_greater_limits()
+    ensures { CoversServeGreaterLimits }
 {}

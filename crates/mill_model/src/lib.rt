@@ -11,15 +11,19 @@ mod judge;
 mod kind;
 mod laws;
 mod limits;
+mod mark;
 mod mill;
 mod open_tree;
 mod order;
 mod plan;
 mod prices;
 mod proved;
+mod share;
+mod shown;
 mod starter;
 mod steps;
 mod sums;
+mod version;
 mod yard;
 
 pub use ask::Ask;
@@ -28,20 +32,26 @@ pub use head::Head;
 pub use illegal::Illegal;
 pub use kind::Kind;
 pub use laws::{
-    a_mill_has_one_front, columns_agree_with_what_follows, good_heads_begin_the_front,
-    no_cover_where_refuted, no_point_means_no_plan, plainly_refuted_limits_are_refuted,
+    a_mill_has_one_front, columns_agree_with_what_follows, covers_serve_greater_limits,
+    good_heads_begin_the_front, marked_steps_begin_one_tree, no_cover_where_refuted,
+    no_point_means_no_plan, plain_marks_claim_nothing, plainly_refuted_limits_are_refuted,
     plans_agree_by_slabs, plans_agree_with_what_follows, plans_answer_once, prices_exclude_plans,
-    sizes_are_loss_and_weights, steps_begin_one_tree, trees_exclude_plans, trees_have_few_nodes,
-    trees_serve_smaller_limits, whole_certificates_give_the_front,
+    shown_covers_exclude_prices, sizes_are_loss_and_weights, steps_begin_one_tree,
+    trees_exclude_plans, trees_have_few_nodes, trees_serve_smaller_limits,
+    whole_certificates_give_the_front,
 };
 pub use limits::Limits;
+pub use mark::Mark;
 pub use mill::Mill;
 pub use open_tree::OpenTree;
 pub use order::Order;
 pub use plan::Plan;
 pub use prices::Prices;
 pub use proved::Proved;
+pub use share::Share;
+pub use shown::Shown;
 pub use starter::Starter;
 pub use steps::{Step, Steps};
 pub use sums::Sums;
+pub use version::Version;
 pub use yard::Yard;
