@@ -56,6 +56,10 @@ pub record Mill : Type 0 where
 abbrev pub yard_of : Mill → Yard
 yard_of m = record { sizes = m.yard; bars = m.bars }
 
+-- the mill with this yard in place of its own
+abbrev pub with_yard : Mill → Yard → Mill
+with_yard m yard = record m { yard = yard.sizes; bars = yard.bars }
+
 abbrev pub IsBetween : ℕ → ℕ → ℕ → Type 0
 IsBetween low high n = (low ≤ n) × (n ≤ high)
 

@@ -1,5 +1,5 @@
 ghost use Rattle.std.specs.Prelude.{◌≡◌, [], length};
-ghost use Rattle.mill_model.specs.Mill.{IsInLimits, IsBetween, AreBarsAmong, most_colour_limit};
+ghost use Rattle.mill_model.specs.Mill.{IsInLimits, IsBetween, AreBarsAmong, with_yard, most_colour_limit};
 ghost use Rattle.mill_model.specs.declared.kind.Kind.TheVariants.{Old};
 ghost use Rattle.mill_model.specs.Columns.{is_barred as is_barred_from};
 
@@ -103,7 +103,7 @@ impl Mill {
     /// Replaces the yard. Its bars are of orders of this mill. All else stays.
     pub fn put_yard(&mut self, yard: Yard)
         requires { AreBarsAmong (length self.old.orders) yard.bars }
-        ensures { self.new ≡ record self.old { yard = yard.sizes; bars = yard.bars } }
+        ensures { self.new ≡ with_yard self.old yard }
     {
         self.yard = yard;
     }
