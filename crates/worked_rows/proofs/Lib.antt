@@ -1,3 +1,3 @@
 pub mod Owing
-pub mod TwoFiles
+pub mod ThreeFiles
 pub mod Ends

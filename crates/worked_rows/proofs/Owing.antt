@@ -5,18 +5,19 @@ use Rattle.std.specs.Bool.{MatchBool}
 use Rattle.std.specs.FinMap.{get}
 use Rattle.slab_desk.specs.Desk.{Files}
 use Rattle.mill_model.specs.declared.illegal.Illegal.{Illegal}
-use Rattle.mill_model.specs.Mill.{Mill}
+use Rattle.mill_model.specs.Mill.{Mill, Yard, with_yard}
 use Rattle.mill_model.specs.Plans.{Plan, IsLegal, sums_of}
 use Rattle.mill_model.specs.Judging.{first_broken}
 use Rattle.mill_model.proofs.Rules.{legal_from_none, rules_of_legal}
 use Rattle.mill_read.specs.declared.fault.TextFault.{TextFault}
 use Rattle.slab_front.specs.declared.texts.Source.{Source}
 use Rattle.slab_front.specs.Texts.{fault_text, long_text, legal_text, SaysBroken}
-use Rattle.slab_front.specs.declared.texts.Source.TheVariants.{Orders, Plan as PlanSource}
-use Rattle.slab_front.specs.Owed.{Owing, Exactly, OwesOfFile, OwesOfMill, OwesOfPlan, OwesVerdict}
+use Rattle.slab_front.specs.declared.texts.Source.TheVariants.{Orders, Plan as PlanSource, Yard as YardSource}
+use Rattle.slab_front.specs.Owed.{Owing, Exactly, OwesOfFile, OwesOfYard, OwesOfMill, OwesOfPlan, OwesVerdict}
 use Rattle.mill_read.specs.OrderFile.{order_file}
+use Rattle.mill_read.specs.YardFile.{yard_file}
 use Rattle.mill_read.specs.PlanFile.{plan_file}
-use Rattle.slab_rows.specs.Rows.{HasPlan}
+use Rattle.worked_rows.specs.Rows.{HasPlan, HasYard}
 
 -- what is owed of a short file by what its reading gives
 abbrev pub OwesOfReading : {A : Type 0} → Source → (A → Owing) → Result A TextFault → Owing
@@ -78,3 +79,43 @@ pub to_plan : (orders plan : List ℕ) (m : Mill) (p : Plan) (files : Files) (st
 to_plan orders plan m p files status text h r owed =
     to_reading PlanSource (plan_file (length m.orders)) (OwesVerdict m) files (codes "plan") plan (Ok p) status text h.plan_there r.short_plan r.plan
     (to_reading Orders order_file (OwesOfPlan files (codes "plan")) files (codes "orders") orders (Ok m) status text h.orders_there r.short_orders r.mill owed)
+
+-- ---- yards
+
+-- a short order file that has a mill, and a short yard file
+pub record IsMillRead (orders yard : List ℕ) (m : Mill) : Type 0 where
+  pub short_orders : nat_lt 1048576 (length orders) ≡ false
+  pub short_yard : nat_lt 1048576 (length yard) ≡ false
+  pub mill : order_file orders ≡ Ok m
+
+abbrev pub OwesWithYard : Files → List ℕ → Mill → Yard → Owing
+OwesWithYard files plan m y = OwesOfPlan files plan (with_yard m y)
+
+abbrev pub OwesJudged : Files → Owing
+OwesJudged files = OwesOfMill (OwesOfPlan files (codes "plan")) files (codes "orders") (Some (codes "yard"))
+
+-- what is owed where the yard file is read
+pub of_yard : (orders plan yard : List ℕ) (m : Mill) (r : Result Yard TextFault) (files : Files) (status : ℕ) (text : List ℕ) → HasYard orders plan yard files → IsMillRead orders yard m
+    → yard_file (length m.orders) yard ≡ r → OwesOfReading YardSource (OwesWithYard files (codes "plan") m) r status text → OwesJudged files status text
+of_yard orders plan yard m r files status text h read is owed =
+    of_file Orders order_file (OwesOfYard (OwesOfPlan files (codes "plan")) files (Some (codes "yard"))) files (codes "orders") orders (Ok m) status text h.plan_file.orders_there read.short_orders read.mill
+    (of_file YardSource (yard_file (length m.orders)) (OwesWithYard files (codes "plan") m) files (codes "yard") yard r status text h.yard_there read.short_yard is owed)
+
+pub to_yard : (orders plan yard : List ℕ) (m : Mill) (r : Result Yard TextFault) (files : Files) (status : ℕ) (text : List ℕ) → HasYard orders plan yard files → IsMillRead orders yard m
+    → yard_file (length m.orders) yard ≡ r → OwesJudged files status text → OwesOfReading YardSource (OwesWithYard files (codes "plan") m) r status text
+to_yard orders plan yard m r files status text h read is owed =
+    to_reading YardSource (yard_file (length m.orders)) (OwesWithYard files (codes "plan") m) files (codes "yard") yard r status text h.yard_there read.short_yard is
+    (to_reading Orders order_file (OwesOfYard (OwesOfPlan files (codes "plan")) files (Some (codes "yard"))) files (codes "orders") orders (Ok m) status text h.plan_file.orders_there read.short_orders read.mill owed)
+
+-- a plan for a mill with a yard
+pub record IsPlanRead (plan : List ℕ) (m : Mill) (y : Yard) (p : Plan) : Type 0 where
+  pub short : nat_lt 1048576 (length plan) ≡ false
+  pub read : plan_file (length m.orders) plan ≡ Ok p
+
+pub of_yard_plan : (orders plan : List ℕ) (m : Mill) (y : Yard) (p : Plan) (files : Files) (status : ℕ) (text : List ℕ) → HasPlan orders plan files → IsPlanRead plan m y p
+    → OwesVerdict (with_yard m y) p status text → OwesWithYard files (codes "plan") m y status text
+of_yard_plan orders plan m y p files status text h r owed = of_file PlanSource (plan_file (length m.orders)) (OwesVerdict (with_yard m y)) files (codes "plan") plan (Ok p) status text h.plan_there r.short r.read owed
+
+pub to_yard_plan : (orders plan : List ℕ) (m : Mill) (y : Yard) (p : Plan) (files : Files) (status : ℕ) (text : List ℕ) → HasPlan orders plan files → IsPlanRead plan m y p
+    → OwesWithYard files (codes "plan") m y status text → OwesVerdict (with_yard m y) p status text
+to_yard_plan orders plan m y p files status text h r owed = to_reading PlanSource (plan_file (length m.orders)) (OwesVerdict (with_yard m y)) files (codes "plan") plan (Ok p) status text h.plan_there r.short r.read owed

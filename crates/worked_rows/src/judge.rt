@@ -1,6 +1,6 @@
 use crate::desk::Files;
-use crate::rows::judged_rows;
-use crate::runs::run_judged;
+use crate::rows::{judged_rows, yard_rows};
+use crate::runs::{run_judged, run_yard};
 use std::test::Fail;
 
 #[test]
@@ -34,24 +34,11 @@ fn a_file_has_a_first_fault(rt: HostRuntime) -> Result<(), Fail> {
 
 #[test]
 fn a_plan_is_judged_with_a_yard(rt: HostRuntime) -> Result<(), Fail> {
-    for (yard, plan, status, said) in [
-        ("1 9", "2 old 1 old 1 1 2", 8, "illegal slab 2 twice\n"),
-        ("1 9", "1 old 1 1 1", 0, "legal 1 0\n"),
-        ("1 9", "1 old 2 1 1", 8, "illegal slab 1 yard\n"),
-        ("1 0", "x", 2, "input yard word 2 range\n"),
-    ] {
-        let files = Files {
-            orders: b"2 4 10 1 2 4 1 4 1".as_slice(),
-            plan,
-            yard,
-        };
-        files.answer(
-            &rt,
-            rt.alloc(),
-            "judge orders plan --yard yard",
-            status,
-            said,
-        )?;
+    for row in &yard_rows() {
+        let ended = run_yard(rt.alloc(), row)?;
+        assert_eq!(rt; ended.said.as_slice(), row.4.as_bytes(), "{}", row.1);
+        assert_eq!(rt; ended.status, row.3, "{}", row.1);
+        assert_eq!(rt; ended.faults, 0);
     }
     Ok(())
 }

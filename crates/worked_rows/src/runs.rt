@@ -3,12 +3,12 @@
 ghost use Rattle.std.specs.Prelude.{◌≡◌, map, IfOk};
 ghost use Rattle.std.specs.String.{string_bytes};
 ghost use Rattle.slab_front.specs.Owed.{Owes, Ran};
-ghost use Rattle.slab_rows.specs.Ends.{EndsSo, EndsAsOwed};
-ghost use Rattle.slab_rows.specs.Rows.{IsUnreadRow, IsRefusedRow, IsJudgedRow};
-ghost use Rattle.slab_rows.specs.Words.{words_of, parts_of};
+ghost use Rattle.worked_rows.specs.Ends.{EndsSo, EndsAsOwed};
+ghost use Rattle.worked_rows.specs.Rows.{IsUnreadRow, IsRefusedRow, IsJudgedRow, IsYardRow};
+ghost use Rattle.worked_rows.specs.Words.{words_of, parts_of};
 
 use crate::desks::desk_of;
-use crate::rows::{JudgedRow, RefusedRow, UnreadRow};
+use crate::rows::{JudgedRow, RefusedRow, UnreadRow, YardRow};
 use slab_desk::MemDesk;
 use slab_front::run;
 use std::alloc::{AllocError, Global};
@@ -26,7 +26,7 @@ pub fn run_unread(alloc: Global, row: &UnreadRow) -> Result<Ended, AllocError>
     requires { IsUnreadRow row.now }
     ensures { IfOk result (EndsSo 1 row.now.1.now) }
 {
-    let ended = run_files(alloc, row.0, b"", b"")?;
+    let ended = run_files(alloc, row.0, b"", b"", b"")?;
     Ok(ended)
 }
 
@@ -35,7 +35,7 @@ pub fn run_refused(alloc: Global, row: &RefusedRow) -> Result<Ended, AllocError>
     requires { IsRefusedRow row.now }
     ensures { IfOk result (EndsSo 2 row.now.1.now) }
 {
-    let ended = run_files(alloc, "solve orders", row.0, b"")?;
+    let ended = run_files(alloc, "solve orders", row.0, b"", b"")?;
     Ok(ended)
 }
 
@@ -44,15 +44,36 @@ pub fn run_judged(alloc: Global, row: &JudgedRow) -> Result<Ended, AllocError>
     requires { IsJudgedRow row.now }
     ensures { IfOk result (EndsSo row.now.2 row.now.3.now) }
 {
-    let ended = run_files(alloc, "judge orders plan", row.0, row.1.as_bytes())?;
+    let ended = run_files(alloc, "judge orders plan", row.0, row.1.as_bytes(), b"")?;
     Ok(ended)
 }
 
-// Runs the program on the words of a text, where there are the files `orders` and `plan`.
-fn run_files(alloc: Global, words: &str, orders: &[u8], plan: &[u8]) -> Result<Ended, AllocError>
-    ensures { IfOk result (EndsAsOwed words.now orders.now plan.now) }
+/// Judges the plan of a row with its yard.
+pub fn run_yard(alloc: Global, row: &YardRow) -> Result<Ended, AllocError>
+    requires { IsYardRow row.now }
+    ensures { IfOk result (EndsSo row.now.3 row.now.4.now) }
 {
-    let mut desk = desk_of(alloc, orders, plan)?;
+    let ended = run_files(
+        alloc,
+        "judge orders plan --yard yard",
+        row.0,
+        row.2.as_bytes(),
+        row.1.as_bytes(),
+    )?;
+    Ok(ended)
+}
+
+// Runs the program on the words of a text, where there are the files `orders`, `plan` and `yard`.
+fn run_files(
+    alloc: Global,
+    words: &str,
+    orders: &[u8],
+    plan: &[u8],
+    yard: &[u8],
+) -> Result<Ended, AllocError>
+    ensures { IfOk result (EndsAsOwed words.now orders.now plan.now yard.now) }
+{
+    let mut desk = desk_of(alloc, orders, plan, yard)?;
     let status = run_words(alloc, words, &mut desk)?;
     let said = Vec::from_slice(alloc, desk.said())?;
     Ok(Ended {

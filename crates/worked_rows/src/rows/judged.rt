@@ -1,5 +1,5 @@
 ghost use Rattle.std.specs.List.{AllByRecursion};
-ghost use Rattle.slab_rows.specs.Rows.{IsJudgedRow};
+ghost use Rattle.worked_rows.specs.Rows.{IsJudgedRow};
 
 /// An order file and a plan file, the status with which `judge` ends, and what is said.
 #[derive(Clone, Copy, Debug)]

@@ -1,5 +1,5 @@
 ghost use Rattle.std.specs.List.{AllByRecursion};
-ghost use Rattle.slab_rows.specs.Rows.{IsRefusedRow};
+ghost use Rattle.worked_rows.specs.Rows.{IsRefusedRow};
 
 /// An order file that can't stand, and what is said of it: `solve` ends with status 2.
 #[derive(Clone, Copy, Debug)]

@@ -1,5 +1,5 @@
 ghost use Rattle.std.specs.List.{AllByRecursion};
-ghost use Rattle.slab_rows.specs.Rows.{IsUnreadRow};
+ghost use Rattle.worked_rows.specs.Rows.{IsUnreadRow};
 
 /// Words that can't stand, and what is said of them: the program ends with status 1, whatever files there are.
 #[derive(Clone, Copy, Debug)]

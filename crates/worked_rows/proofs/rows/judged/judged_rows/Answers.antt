@@ -10,9 +10,9 @@ use Rattle.mill_read.specs.OrderFile.{order_at, mill_at}
 use Rattle.mill_read.specs.PlanFile.{kind_at, place_at, plan_at}
 use Rattle.mill_read.specs.SlabWords.{is_new_at}
 use Rattle.slab_front.specs.Texts.{legal_text, SaysBroken}
-use Rattle.slab_rows.specs.Rows.{IsAnswered, HasPlan}
-use Rattle.slab_rows.proofs.Owing.{AreRead, of_plan, to_plan, legal_owed, legal_only, broken_owed, broken_only}
-use Rattle.slab_rows.proofs.rows.judged.judged_rows.Goals as goal
+use Rattle.worked_rows.specs.Rows.{IsAnswered, HasPlan}
+use Rattle.worked_rows.proofs.Owing.{AreRead, of_plan, to_plan, legal_owed, legal_only, broken_owed, broken_only}
+use Rattle.worked_rows.proofs.rows.judged.judged_rows.Goals as goal
 
 legal : (orders plan : List ℕ) (m : Mill) (p : Plan) → AreRead orders plan m p → first_broken m p ≡ None → IsAnswered (codes "judge orders plan") (HasPlan orders plan) 0 (legal_text (sums_of m p))
 legal orders plan m p r none = record {

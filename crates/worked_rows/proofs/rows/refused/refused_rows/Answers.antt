@@ -8,9 +8,9 @@ use Rattle.mill_read.specs.OrderFile.{order_at, mill_at, order_file}
 use Rattle.slab_front.specs.declared.texts.Source.TheVariants.{Orders}
 use Rattle.slab_front.specs.Texts.{fault_text}
 use Rattle.slab_front.specs.Owed.{OwesSolved}
-use Rattle.slab_rows.specs.Rows.{IsAnswered, HasOrders}
-use Rattle.slab_rows.proofs.Owing.{of_file, to_reading}
-use Rattle.slab_rows.proofs.rows.refused.refused_rows.Goals as goal
+use Rattle.worked_rows.specs.Rows.{IsAnswered, HasOrders}
+use Rattle.worked_rows.proofs.Owing.{of_file, to_reading}
+use Rattle.worked_rows.proofs.rows.refused.refused_rows.Goals as goal
 
 -- the first fault of an order file is said
 refused : (orders : List ℕ) (word : ℕ) (why : Why) → nat_lt 1048576 (length orders) ≡ false → order_file orders ≡ Err (record { word = word; why = why })

@@ -1,6 +1,6 @@
 use Rattle.std.proofs.Common.{refl}
 use Rattle.std.specs.Fmt.{digits}
-use Rattle.slab_rows.proofs.rows.unread.unread_rows.Goals as goal
+use Rattle.worked_rows.proofs.rows.unread.unread_rows.Goals as goal
 
 pub returns : goal.returns
 unfolding digits
