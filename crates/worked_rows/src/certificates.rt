@@ -12,7 +12,7 @@ fn leaf(alloc: Global, lambda: i64, mu: i64) -> Result<Steps, AllocError>
     let prices = Prices::new(lambda, mu, Vec::new(alloc), Vec::new(alloc));
     let mut steps = Vec::new(alloc);
     steps.push(Step::Leaf(prices))?;
-    Ok(Steps::new(steps))
+    Ok(Steps::new(steps, Vec::new(alloc)))
 }
 
 #[test]
@@ -25,6 +25,7 @@ fn a_certificate_is_put_together_and_taken_apart(rt: HostRuntime) -> Result<(), 
     let front = Front::new(Head::new(points), leaf(alloc, 0, 1)?);
     assert_eq!(rt; front.head().points().len(), 1);
     assert_eq!(rt; front.last().list().len(), 1);
+    assert_eq!(rt; front.last().marks().len(), 0);
     let (head, _last) = front.into_parts();
     for point in head.into_points() {
         let (kept, plan, steps) = point.into_parts();
