@@ -1,16 +1,15 @@
 -- What is held of a line.
-use Rattle.std.proofs.Common.{◌≡◌, ℕ, zero, suc, ◌+◌, ◌-◌, ◌<◌, ◌≤◌, Bool, true, false, cond, eqb, ltb, List, [], ◌∷◌, ◌++◌, length, take, Some, Ok, Err, refl, sym, ap, ap₂, ◌∙◌, subst, arith, inl, inr, length-append, min}
+use Rattle.std.proofs.Common.{◌≡◌, ℕ, zero, suc, ◌+◌, ◌<◌, ◌≤◌, true, false, cond, eqb, ltb, List, [], ◌∷◌, ◌++◌, length, take, Some, Err, refl, sym, ap, ◌∙◌, subst, arith, inl, inr, length-append, min}
 use Rattle.std.specs.List.{position_or_len, before_first, IsLastAndRest}
 use Rattle.std.proofs.Math.Seq.{take-append_seam}
-use Rattle.std.proofs.lemmas.List.{get_or_append_left, take-append-le, length-drop, length-take-le}
+use Rattle.std.proofs.lemmas.List.{take-append-le, length-drop, length-take-le}
 use Rattle.std.proofs.lemmas.List.Folds.{position_or_len_push}
-use Rattle.std.proofs.lemmas.List.Sums.{position_or_len_is, passes_at_first, fails_before_first, prefix_len-le-length}
-use Rattle.std.proofs.lemmas.Bool.{cases_lt, lt-ltb, ltb-true, eqb-true, both_ways, false_from_ne_true}
+use Rattle.std.proofs.lemmas.List.Sums.{prefix_len-le-length}
+use Rattle.std.proofs.lemmas.Bool.{cases_lt, lt-ltb, ltb-true, both_ways, false_from_ne_true}
 use Rattle.std.proofs.lemmas.Bool.Decides.{nat_tests}
-use Rattle.cert_view.specs.declared.line.Line.{Line}
 use Rattle.cert_view.specs.declared.line.Spelling.TheVariants as spellings
 use Rattle.cert_view.specs.Line.{is_feed, line_of, next_line, after_line}
-use Rattle.cert_view.specs.Held.{IsOneLine, IsWhole}
+use Rattle.cert_view.specs.Held.{IsOneLine}
 use Rattle.cert_view.specs.Text.{line_text}
 use Rattle.cert_view.specs.Laws.{BeginsWith, WholeIsFirst, WholeIsText}
 use Rattle.cert_view.proofs.Words.{either}

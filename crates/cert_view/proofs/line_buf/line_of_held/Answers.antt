@@ -1,8 +1,7 @@
-use Rattle.std.proofs.Common.{◌≡◌, ◌≢◌, length, true, false, inl, inr, refl, ap, sym, ◌∙◌, arith}
+use Rattle.std.proofs.Common.{◌≡◌, true, false, inl, inr, refl, ap, sym, arith}
 use Rattle.std.proofs.lemmas.Bool.Decides.{nat_tests}
 use Rattle.cert_view.specs.Line.{is_feed}
-use Rattle.cert_view.specs.Held.{IsPart}
-use Rattle.cert_view.proofs.Buffers.{EndsInFeed, ends_in_feed, ends_otherwise, read-ended, read-unended}
+use Rattle.cert_view.proofs.Buffers.{ends_in_feed, ends_otherwise, read-ended, read-unended}
 use Rattle.cert_view.proofs.line_buf.line_of_held.Goals as goal
 
 pub returns-then-last-eq10-clause-part : goal.returns-then-last-eq10-clause-part
