@@ -53,7 +53,7 @@ impl Yard {
     }
 
     /// Whether some bar is of this order and this surplus slab.
-    pub fn is_barred(&self, order: u16, slab: u16) -> bool
+    pub(crate) fn is_barred(&self, order: u16, slab: u16) -> bool
         ensures { result ≡ list_any (is_bar order slab) self.now.bars }
     {
         self.table.has(order, slab)

@@ -1,6 +1,8 @@
 use crate::desk::Files;
 use crate::rows::{judged_rows, yard_rows};
 use crate::runs::{run_judged, run_yard};
+use mill_model::{Illegal, Kind, Plan, Sums};
+use mill_read::read_orders;
 use std::test::Fail;
 
 #[test]
@@ -40,5 +42,18 @@ fn a_plan_is_judged_with_a_yard(rt: HostRuntime) -> Result<(), Fail> {
         assert_eq!(rt; ended.status, row.3, "{}", row.1);
         assert_eq!(rt; ended.faults, 0);
     }
+    Ok(())
+}
+
+#[test]
+fn a_mill_allows_so_many_colours_on_a_slab(rt: HostRuntime) -> Result<(), Fail> {
+    let alloc = rt.alloc();
+    let mut mill = read_orders(alloc, b"1 9 3 3 3 1 3 2 3 3")?;
+    let plan = Plan::new(vec![in alloc; Kind::New(9)]?, vec![in alloc; 0, 0, 0]?);
+    assert_eq!(rt; plan.judge(&mill), Err(Illegal::Colours(0)));
+    mill.set_colour_limit(3);
+    assert_eq!(rt; plan.judge(&mill), Ok(Sums { loss: 0, count: 1 }));
+    mill.set_colour_limit(1);
+    assert_eq!(rt; plan.judge(&mill), Err(Illegal::Colours(0)));
     Ok(())
 }
