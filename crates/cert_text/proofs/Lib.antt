@@ -6,3 +6,4 @@ pub mod Wholes
 pub mod Readable
 pub mod Texts
 pub mod Shown
+pub mod Shares

@@ -1,13 +1,18 @@
 -- What joins certificates and their texts.
-use Rattle.std.specs.Prelude.{◌≡◌, ◌⊎◌, ℕ, List, [], ◌++◌}
+use Rattle.std.specs.Prelude.{◌≡◌, ◌⊎◌, ℕ, ◌<◌, List, [], ◌++◌, length}
 use Rattle.std.specs.List.{AllByRecursion}
+use Rattle.mill_model.specs.declared.limits.Limits.{Limits}
 use Rattle.mill_model.specs.declared.mark.Mark.{Mark}
+use Rattle.mill_model.specs.declared.mark.Mark.TheVariants.{Spread}
 use Rattle.mill_model.specs.declared.version.Version.{Version}
 use Rattle.mill_model.specs.declared.version.Version.TheVariants.{One}
 use Rattle.mill_model.specs.Mill.{Mill, IsInLimits}
 use Rattle.mill_model.specs.Plans.{Plan, IsLegal}
+use Rattle.mill_model.specs.Decisions.{Decision}
 use Rattle.mill_model.specs.Prices.{Prices}
-use Rattle.mill_model.specs.Trees.{Tree, preorder, marks_of}
+use Rattle.mill_model.specs.Shares.{Shown}
+use Rattle.mill_model.specs.Trees.{Tree, EverySplit, RefutingTree, preorder, marks_of}
+use Rattle.mill_model.specs.Marks.{HasRightMarks}
 use Rattle.mill_model.specs.Fronts.{IsFront, IsGoodHead, sums_list}
 use Rattle.cert_text.specs.Certificates.{Certificate, IsGood, ShowsFront, ShowsNoPlan, ShowsCut}
 use Rattle.cert_text.specs.Lines.{steps_lines, marked_lines, certificate_lines}
@@ -26,6 +31,12 @@ abbrev pub WhatIsShownHolds : Type 0
 WhatIsShownHolds = (m : Mill) (c : Certificate) →
     (ShowsFront m c → IsFront m (sums_list c.points))
     × (ShowsNoPlan m c → (p : Plan) → IsLegal m p → ⊥) × (IsGood m c → IsGoodHead m c.points)
+
+-- a cover that a question of a marked tree shows has a share
+abbrev pub ShownCoversHaveShares : Type 0
+ShownCoversHaveShares = (m : Mill) (limits : Limits) (decisions : List Decision) (t : Tree Mark Prices) →
+    RefutingTree m limits t decisions → HasRightMarks m limits t decisions →
+    EverySplit (λ mark _ _. (shown : Shown) → mark ≡ Spread shown → 0 < length shown.shares) t decisions
 
 -- the lines of a tree are those of its steps and marks
 abbrev pub TreesAreListed : Type 0

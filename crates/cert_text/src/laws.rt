@@ -1,5 +1,5 @@
 //! Laws of certificates and their texts.
-ghost use Rattle.cert_text.specs.Laws.{EachShowsOne, GoodLinesAreRead, NoProperPrefix, OneCertificate, TreesAreListed, WhatIsShownHolds, WorkedTexts};
+ghost use Rattle.cert_text.specs.Laws.{EachShowsOne, GoodLinesAreRead, NoProperPrefix, OneCertificate, ShownCoversHaveShares, TreesAreListed, WhatIsShownHolds, WorkedTexts};
 
 /// A good certificate shows exactly one of three things: a front, that there is no plan, or that it was cut off.
 pub fn each_shows_one()
@@ -9,6 +9,11 @@ pub fn each_shows_one()
 /// The points of a certificate that shows a front are the Pareto front, and where one shows no plan, no plan is legal.
 pub fn what_is_shown_holds()
     ensures { WhatIsShownHolds }
+{}
+
+/// A cover that a question of a marked tree shows has a share, since each order is covered.
+pub fn shown_covers_have_shares()
+    ensures { ShownCoversHaveShares }
 {}
 
 /// The lines of a marked tree are those of its steps and marks.

@@ -7,6 +7,6 @@
 mod laws;
 
 pub use laws::{
-    each_shows_one, good_lines_are_read, no_proper_prefix, one_certificate, trees_are_listed,
-    what_is_shown_holds, worked_texts,
+    each_shows_one, good_lines_are_read, no_proper_prefix, one_certificate,
+    shown_covers_have_shares, trees_are_listed, what_is_shown_holds, worked_texts,
 };
