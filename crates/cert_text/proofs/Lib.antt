@@ -5,3 +5,5 @@ pub mod Plans
 pub mod Wholes
 pub mod Readable
 pub mod Texts
+pub mod Shown
+pub mod Shares

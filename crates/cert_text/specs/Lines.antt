@@ -1,5 +1,5 @@
 -- The lines of a certificate.
-use Rattle.std.specs.Prelude.{ℕ, suc, ℤ, pos, List, [], ◌∷◌, ◌++◌, map, length, Option, Some, None}
+use Rattle.std.specs.Prelude.{ℕ, suc, ℤ, pos, List, [], ◌∷◌, ◌++◌, map, drop, length, Option, Some, None}
 use Rattle.std.specs.List.{flat_map, range_with_len}
 use Rattle.mill_model.specs.declared.ask.Ask.{Ask}
 use Rattle.mill_model.specs.declared.ask.Ask.TheVariants as asks
@@ -57,21 +57,19 @@ mark_lines Two (marks.Spread shown) = lines.Spread (shown.d ∷ []) ∷ map shar
 mark_lines Two marks.Bare = lines.Bare ∷ []
 mark_lines Two marks.Plain = lines.Plain ∷ []
 
--- the first of the marks that are left
+-- those of the first mark that is left
 abbrev pub first_mark_lines : Version → List Mark → List Line
 first_mark_lines version [] = []
-first_mark_lines version (mark ∷ others) = mark_lines version mark
-
-abbrev pub other_marks : List Mark → List Mark
-other_marks [] = []
-other_marks (mark ∷ others) = others
+first_mark_lines version (mark ∷ left) = mark_lines version mark
 
 -- steps in preorder, and a mark for each question in the same order
 abbrev pub steps_lines : Version → List Step → List Mark → List Line
 steps_lines version [] left = []
 steps_lines version (steps.Leaf p ∷ rest) left = leaf_line p ∷ steps_lines version rest left
-steps_lines version (steps.Pair i j ∷ rest) left = first_mark_lines version left ++ (ask_line (asks.Pair i j) ∷ steps_lines version rest (other_marks left))
-steps_lines version (steps.Put o s ∷ rest) left = first_mark_lines version left ++ (ask_line (asks.Put o s) ∷ steps_lines version rest (other_marks left))
+steps_lines version (steps.Pair i j ∷ rest) left =
+    first_mark_lines version left ++ (ask_line (asks.Pair i j) ∷ steps_lines version rest (drop 1 left))
+steps_lines version (steps.Put o s ∷ rest) left =
+    first_mark_lines version left ++ (ask_line (asks.Put o s) ∷ steps_lines version rest (drop 1 left))
 
 abbrev pub tree_lines : Version → MarkedSteps → List Line
 tree_lines version s = steps_lines version s.steps s.marks
@@ -105,7 +103,8 @@ columns_of p = map (slab p) (range_with_len 0 (length p.kinds))
 
 -- a point's sums, its slabs and its tree
 abbrev pub point_lines : Version → Point → List Line
-point_lines version point = sums_line point.sums ∷ (map slab_line (columns_of point.plan) ++ tree_lines version point.steps)
+point_lines version point =
+    sums_line point.sums ∷ (map slab_line (columns_of point.plan) ++ tree_lines version point.steps)
 
 -- ---- certificates
 
@@ -114,4 +113,5 @@ ending_lines version (Whole last) = lines.Done ∷ tree_lines version last
 ending_lines version (Cut outline) = lines.Cut ∷ map outline_line outline
 
 abbrev pub certificate_lines : Certificate → List Line
-certificate_lines c = header_line c.version ∷ (flat_map (point_lines c.version) c.points ++ ending_lines c.version c.ending)
+certificate_lines c =
+    header_line c.version ∷ (flat_map (point_lines c.version) c.points ++ ending_lines c.version c.ending)
