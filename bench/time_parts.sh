@@ -89,7 +89,7 @@ echo "the same at low prices, where no column exceeds:"
 on_mills price_none "csplib111.txt 500" "few30c8y_0.ord 5000" "few50c8y_0.ord 2500"
 
 echo "random decisions of pairs and puts, 100 a round, each round from nothing:"
-on_mills pair "csplib111.txt 300" "few30c8y_0.ord 5000" "few50c8y_0.ord 1500"
+on_mills pair "csplib111.txt 20000" "few30c8y_0.ord 50000" "few50c8y_0.ord 30000"
 
 echo "what follows of each pair of orders, under 50 random decisions:"
 on_mills follows "csplib111.txt 60000" "few30c8y_0.ord 60000" "few50c8y_0.ord 60000"

@@ -21,6 +21,10 @@ cell cells k = slice_index_or cells k Open
 abbrev pub combined_of : Relation → Relation → Relation
 combined_of p q = if is_apart p || is_apart q then Apart else Open
 
+-- the relation of a node to the group that two groups make, from how it stood to each
+abbrev pub joined_of : Relation → Relation → Relation
+joined_of p q = if is_same p || is_same q then Same else combined_of p q
+
 -- the relation of nodes x and y once the groups of a and b are one, from how x and y stood to a, to b and to each other
 abbrev pub merged : Relation → Relation → Relation → Relation → Relation → Relation
 merged xa xb ya yb xy =

@@ -1,4 +1,5 @@
 pub mod Cells
 pub mod Relations
+pub mod Changes
 pub mod Labels
 pub mod Sizes

@@ -25,6 +25,12 @@ pub record Relations : Type 0 where
 abbrev pub relation_at : Relations → Table
 relation_at r x y = cell r.cells (x * r.count + y)
 
+-- the cells are a square
+pub record IsSquare (r : Relations) : Type 0 where
+  pub slabs : r.slabs ≤ r.count
+  pub limit : r.count ≤ 290
+  pub square : length r.cells ≡ r.count * r.count
+
 -- the cells are a square, and are closed
 pub record IsRelations (r : Relations) : Type 0 where
   pub slabs : r.slabs ≤ r.count

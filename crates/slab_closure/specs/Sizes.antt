@@ -1,7 +1,6 @@
 -- How many nodes a group has.
-use Rattle.std.specs.Prelude.{◌≡◌, ℕ, zero, suc, ◌+◌, ◌*◌, ◌<◌, Bool, cond, List, slice_index_or}
-use Rattle.slab_closure.specs.declared.relation.Relation.{Relation}
-use Rattle.slab_closure.specs.Cells.{is_same, cell}
+use Rattle.std.specs.Prelude.{◌≡◌, ℕ, zero, suc, ◌+◌, ◌<◌, Bool, cond, List, slice_index_or}
+use Rattle.slab_closure.specs.Cells.{is_same}
 use Rattle.slab_closure.specs.Relations.{Table, Relations, relation_at}
 
 -- how many of the k numbers from low on pass a test
@@ -16,6 +15,6 @@ size_in n at x = count_from (λ (y : ℕ). is_same (at x y)) 0 n
 abbrev pub group_size : Relations → ℕ → ℕ
 group_size r x = size_in r.count (relation_at r) x
 
--- the size of each node's group, where the cells are a square of so many rows
-abbrev pub AreSizes : List Relation → ℕ → List ℕ → Type 0
-AreSizes cells count sizes = (x : ℕ) → x < count → slice_index_or sizes x 0 ≡ size_in count (λ (x y : ℕ). cell cells (x * count + y)) x
+-- the size of each node's group
+abbrev pub AreSizes : Relations → List ℕ → Type 0
+AreSizes r sizes = (x : ℕ) → x < r.count → slice_index_or sizes x 0 ≡ group_size r x

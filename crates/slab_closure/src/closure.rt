@@ -1,60 +1,33 @@
-ghost use Rattle.std.specs.Prelude.{ℕ, ◌≡◌, ◌+◌, ◌*◌, ◌<◌, ◌≤◌, length, IfOk};
-ghost use Rattle.slab_closure.specs.Cells.{cell, decided};
-ghost use Rattle.slab_closure.specs.Relations.{Relations, relation_at, AreDecided, IsClosed, IsRelations, AreUndecided};
+ghost use Rattle.std.specs.Prelude.{◌≡◌, ◌+◌, ◌<◌, ◌≤◌, IfOk};
+ghost use Rattle.slab_closure.specs.Relations.{relation_at, AreDecided, IsRelations, AreUndecided};
 ghost use Rattle.slab_closure.specs.Sizes.{group_size};
 ghost use Rattle.slab_closure.specs.declared.relation.Relation.{Relation};
 
-use crate::relation::{Relation, copy_row, decide_cells, start};
-use crate::sizes::write_sizes;
+use crate::joining::join;
+use crate::parting::part;
+use crate::relation::Relation;
+use crate::sizes::write_size;
+use crate::square::Square;
 use std::alloc::{AllocError, Global};
 use std::marker::Model;
 
 /// The relations of nodes: surplus slabs, which come first, and orders. They are seen as a square of cells.
 #[derive(Drop)]
 pub struct Closure {
-    count: usize,
-    slabs: usize,
-    cells: Vec<Relation>,
+    square: Square,
     sizes: Vec<u16>,
-    first: Vec<Relation>,
-    second: Vec<Relation>,
 }
 
 impl Model for Closure {
-    ghost use Rattle.std.specs.Prelude.{◌≡◌, length, vec_len};
+    ghost use Rattle.std.specs.Prelude.{◌≡◌, vec_len};
     ghost use Rattle.slab_closure.specs.Relations.{Relations, IsRelations};
     ghost use Rattle.slab_closure.specs.Sizes.{AreSizes};
 
     ghost Value = { Relations };
 
-    ghost view = { λ c. record { count = c.count; slabs = c.slabs; cells = c.cells.items } };
+    ghost view = { λ c. c.square };
 
-    ghost invariant = { λ c. IsRelations (record { count = c.count; slabs = c.slabs; cells = c.cells.items }) × (vec_len c.sizes ≡ c.count) × AreSizes c.cells.items c.count c.sizes.items × (vec_len c.first ≡ c.count) × (vec_len c.second ≡ c.count) };
-}
-
-/// Makes the groups of two nodes one, or tells them apart. `first` and `second` are room for a row each.
-fn decide_rows(
-    cells: &mut [Relation],
-    first: &mut [Relation],
-    second: &mut [Relation],
-    a: usize,
-    b: usize,
-    yes: bool,
-)
-    requires square { length cells.old ≡ length first.old * length first.old }
-    requires second { length second.old ≡ length first.old }
-    requires limit { length first.old ≤ 290 }
-    requires a { a < length first.old }
-    requires b { b < length first.old }
-    ensures { let count = length first.old in
-        (x y : ℕ) → x < count → y < count →
-        cell cells.new (x * count + y)
-        ≡ decided yes (cell cells.old (a * count + x)) (cell cells.old (b * count + x)) (cell cells.old (a * count + y)) (cell cells.old (b * count + y))
-        (cell cells.old (x * count + y)) }
-{
-    copy_row(first, cells, a);
-    copy_row(second, cells, b);
-    decide_cells(cells, first, second, yes);
+    ghost invariant = { λ c. IsRelations c.square × (vec_len c.sizes ≡ c.square.count) × AreSizes c.square c.sizes.items };
 }
 
 impl Closure {
@@ -66,21 +39,9 @@ impl Closure {
         ensures undecided { IfOk result AreUndecided }
         ensures relations { IfOk result IsRelations }
     {
-        let count = slabs + orders;
-        let first = vec![in alloc; Relation::Open; count]?;
-        let second = vec![in alloc; Relation::Open; count]?;
-        let mut sizes = vec![in alloc; 0; count]?;
-        let mut cells = vec![in alloc; Relation::Open; count * count]?;
-        start(&mut cells, count, slabs);
-        write_sizes(&mut sizes, &cells);
-        Ok(Closure {
-            count,
-            slabs,
-            cells,
-            sizes,
-            first,
-            second,
-        })
+        let sizes = vec![in alloc; 1; slabs + orders]?;
+        let square = Square::new(alloc, slabs, orders)?;
+        Ok(Closure { square, sizes })
     }
 
     /// Takes all decisions back. It takes no memory.
@@ -90,8 +51,8 @@ impl Closure {
         ensures undecided { AreUndecided self.new }
         ensures relations { IsRelations self.new }
     {
-        start(&mut self.cells, self.count, self.slabs);
-        write_sizes(&mut self.sizes, &self.cells);
+        self.square.reset();
+        self.sizes.fill(1);
     }
 
     /// How two nodes stand to each other.
@@ -101,7 +62,7 @@ impl Closure {
         ensures value { result ≡ relation_at self.now x y }
         ensures relations { IsRelations self.now }
     {
-        self.cells[x * self.count + y]
+        self.square.at(x, y)
     }
 
     /// How many nodes lie in the group of a node, itself among them.
@@ -120,14 +81,12 @@ impl Closure {
         ensures decided { AreDecided self.old self.new a b yes }
         ensures relations { IsRelations self.new }
     {
-        decide_rows(
-            &mut self.cells,
-            &mut self.first,
-            &mut self.second,
-            a,
-            b,
-            yes,
-        );
-        write_sizes(&mut self.sizes, &self.cells);
+        if yes {
+            join(&mut self.square, a, b);
+            let size = self.sizes[a] + self.sizes[b];
+            write_size(&mut self.sizes, &self.square, a, size);
+        } else {
+            part(&mut self.square, a, b);
+        }
     }
 }

@@ -62,6 +62,34 @@ impl Decisions {
         self.list.clear();
     }
 
+    /// Decides about an ask whether its answer is yes. A decision that stands already changes nothing. The error comes exactly
+    /// where no assignment agrees with the decisions and this one, and nothing has changed then.
+    pub fn decide(&mut self, ask: Ask, yes: bool) -> Result<(), Clash>
+        requires { IsAskOf self.old ask }
+        ensures decided { OnOk result (HasDecided self.old self.new (ask, yes)) }
+        ensures consistent { OnOk result (AreConsistent ((ask, yes) ∷ self.old.list)) }
+        ensures clash { OnErr result (AreConsistent ((ask, yes) ∷ self.old.list) → ⊥) }
+        ensures unchanged { OnErr result (self.new ≡ self.old) }
+        ensures orders { self.new.orders ≡ self.old.orders }
+        ensures yard { self.new.yard ≡ self.old.yard }
+    {
+        let (first, second) = nodes(self.yard, ask);
+        let relation = self.relations.at(first, second);
+        if relation == Relation::Open {
+            self.relations.decide(first, second, yes);
+            add(&mut self.list, ask, yes);
+            return Ok(());
+        }
+        if relation != relation_of(yes) {
+            return Err(Clash);
+        }
+        if stands(&self.list, ask, yes) {
+            return Ok(());
+        }
+        add(&mut self.list, ask, yes);
+        Ok(())
+    }
+
     /// Decides whether orders i and j lie in one group. A decision that stands already changes nothing. The error comes
     /// exactly where no assignment agrees with the decisions and this one, and nothing has changed then.
     pub fn pair(&mut self, i: u16, j: u16, yes: bool) -> Result<(), Clash>
@@ -90,32 +118,6 @@ impl Decisions {
         ensures yard { self.new.yard ≡ self.old.yard }
     {
         self.decide(Ask::Put(o, s), yes)
-    }
-
-    fn decide(&mut self, ask: Ask, yes: bool) -> Result<(), Clash>
-        requires { IsAskOf self.old ask }
-        ensures decided { OnOk result (HasDecided self.old self.new (ask, yes)) }
-        ensures consistent { OnOk result (AreConsistent ((ask, yes) ∷ self.old.list)) }
-        ensures clash { OnErr result (AreConsistent ((ask, yes) ∷ self.old.list) → ⊥) }
-        ensures unchanged { OnErr result (self.new ≡ self.old) }
-        ensures orders { self.new.orders ≡ self.old.orders }
-        ensures yard { self.new.yard ≡ self.old.yard }
-    {
-        let (first, second) = nodes(self.yard, ask);
-        let relation = self.relations.at(first, second);
-        if relation == Relation::Open {
-            self.relations.decide(first, second, yes);
-            add(&mut self.list, ask, yes);
-            return Ok(());
-        }
-        if relation != relation_of(yes) {
-            return Err(Clash);
-        }
-        if stands(&self.list, ask, yes) {
-            return Ok(());
-        }
-        add(&mut self.list, ask, yes);
-        Ok(())
     }
 
     /// The answer that all assignments give that agree with the decisions, `None` where they differ.

@@ -1,27 +1,32 @@
-use Rattle.std.proofs.Common.{arith, ◌≡◌, length, take, drop, ◌++◌, ◌∙◌, refl, ap}
-use Rattle.slab_closure.specs.Relations.{Relations, IsRelations, AreDecided}
-use Rattle.slab_closure.proofs.Written.{decided_relations, written, written_cells, sized}
+use Rattle.std.proofs.Common.{◌≡◌, ◌<◌, length, get_or, arith, sym, ◌∙◌}
+use Rattle.slab_closure.proofs.GroupSizes.{joined_sizes, parted_sizes, few_in_group, read_size, written}
 use Rattle.slab_closure.proofs.closure.Closure.decide.Goals as goal
 
-both : (c : goal.After-self-4-1) → AreDecided (record { count = c.self.inside.count; slabs = c.self.inside.slabs; cells = c.self.inside.cells.items }) (record { count = c.self.inside.count; slabs = c.self.inside.slabs; cells = take c.self.inside.cells.len (c.decide_rows.new.cells ++ drop (length c.decide_rows.new.cells) c.self.inside.cells.items) }) c.args.a c.args.b c.args.yes × IsRelations (record { count = c.self.inside.count; slabs = c.self.inside.slabs; cells = take c.self.inside.cells.len (c.decide_rows.new.cells ++ drop (length c.decide_rows.new.cells) c.self.inside.cells.items) })
-both c =
-    let old : Relations = record { count = c.self.inside.count; slabs = c.self.inside.slabs; cells = c.self.inside.cells.items } in
-    let new : Relations = record { count = c.self.inside.count; slabs = c.self.inside.slabs; cells = take c.self.inside.cells.len (c.decide_rows.new.cells ++ drop (length c.decide_rows.new.cells) c.self.inside.cells.items) } in
-    let long : length c.decide_rows.new.cells ≡ c.self.inside.cells.len = omega (arith, c.decide_rows.auto.cells, c.deref_mut.ensures.len) in
-    decided_relations c.args.yes old new c.args.a c.args.b
-    (rw (← c.self.view_is) at c.requires.a) (rw (← c.self.view_is) at c.requires.b) c.self.invariant.0 (rw (← c.self.view_is) at c.requires.open) refl refl
-    (ap length (written c.self.inside.cells.len c.decide_rows.new.cells c.self.inside.cells.items long) ∙ c.decide_rows.auto.cells ∙ ap length c.deref_mut.ensures.value)
-    (written_cells c.args.yes _ _ _ _ _ _ _ _ _ (c.deref_mut-2.ensures.len ∙ c.self.invariant.3) c.deref_mut.ensures.value long c.decide_rows.ensures)
+pub overflow_add-size : goal.overflow_add-size
+overflow_add-size c =
+    let p : c.args.a < c.self.inside.square.count = rw (← c.self.view_is) at c.requires.a in
+    let q : c.args.b < c.self.inside.square.count = rw (← c.self.view_is) at c.requires.b in
+    let first = read_size c.self.inside.sizes.items c.args.a c.index.result.now (omega (arith, c.self.invariant.1, p)) c.index.ensures in
+    let second = read_size c.self.inside.sizes.items c.args.b c.index-then-yes.result.now (omega (arith, c.self.invariant.1, q)) c.index-then-yes.ensures in
+    omega (arith, first, second, few_in_group c.self.inside.square c.self.inside.sizes.items c.args.a c.self.invariant.2 c.self.invariant.0 p, few_in_group c.self.inside.square c.self.inside.sizes.items c.args.b c.self.invariant.2 c.self.invariant.0 q)
 
 pub invariant_of-self : goal.invariant_of-self
-invariant_of-self c = (
-  (both c).1,
-  c.self.invariant.1,
-  sized c.self.inside.count (length c.deref_mut-4.result.now) c.self.inside.sizes.len c.deref.result.now _ c.write_sizes.new.sizes c.self.inside.sizes.items
-      (c.deref_mut-4.ensures.len ∙ c.self.invariant.1) c.deref.ensures.value (c.write_sizes.auto.sizes ∙ c.deref_mut-4.ensures.len) c.write_sizes.ensures,
-  c.self.invariant.3,
-  c.self.invariant.4,
-)
+invariant_of-self c =
+    let p : c.args.a < c.self.inside.square.count = rw (← c.self.view_is) at c.requires.a in
+    let q : c.args.b < c.self.inside.square.count = rw (← c.self.view_is) at c.requires.b in
+    let first : c.index.result.now ≡ get_or c.self.inside.sizes.items c.args.a 0 = read_size c.self.inside.sizes.items c.args.a c.index.result.now (omega (arith, c.self.invariant.1, p)) c.index.ensures in
+    let second : c.index-then-yes.result.now ≡ get_or c.self.inside.sizes.items c.args.b 0 = read_size c.self.inside.sizes.items c.args.b c.index-then-yes.result.now (omega (arith, c.self.invariant.1, q)) c.index-then-yes.ensures in
+    let long : length c.write_size.new.sizes ≡ c.self.inside.sizes.len = c.write_size.auto.sizes ∙ c.deref_mut.ensures.len in (
+      c.join.ensures.relations,
+      c.self.invariant.1 ∙ sym c.join.ensures.decided.count,
+      rw (written c.self.inside.sizes.len c.write_size.new.sizes c.self.inside.sizes.items long)
+          (joined_sizes c.self.inside.square c.join.new.square c.args.a c.args.b _ c.self.inside.sizes.items c.write_size.new.sizes c.self.invariant.0 c.join.ensures.decided p q (rw (← c.self.view_is) at c.requires.open) c.self.invariant.2
+          (omega (arith, first, second)) (rw c.deref_mut.ensures.value at c.write_size.ensures)),
+    )
 
-pub returns : goal.returns
-returns c = let done = both c in record { decided = rw (← c.self.view_is) done.0; relations = done.1 }
+pub invariant_of-self-else-yes : goal.invariant_of-self-else-yes
+invariant_of-self-else-yes c = (
+  c.part.ensures.relations,
+  c.self.invariant.1 ∙ sym c.part.ensures.decided.count,
+  parted_sizes c.self.inside.square c.part.new.square c.args.a c.args.b c.self.inside.sizes.items c.self.invariant.0 c.part.ensures.decided (rw (← c.self.view_is) at c.requires.a) (rw (← c.self.view_is) at c.requires.b) (rw (← c.self.view_is) at c.requires.open) c.self.invariant.2,
+)
