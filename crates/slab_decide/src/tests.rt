@@ -15,6 +15,7 @@ fn decides_three_orders(rt: HostRuntime) -> Result<(), Fail> {
     assert_eq!(rt; decisions.follows(Ask::Put(0, 0)), None);
     assert_eq!(rt; decisions.put(2, 0, true), Ok(()));
     assert_eq!(rt; decisions.first_open(), None);
+    assert_eq!(rt; decisions.decide(Ask::Put(1, 0), false), Ok(()));
     assert_eq!(rt; decisions.follows(Ask::Put(0, 0)), Some(false));
     assert!(rt; decisions.allows(Kind::New(7), &[0, 1]));
     assert!(rt;
