@@ -1,4 +1,5 @@
 pub mod Columns
+pub mod Duality
 pub mod PivotCounts
 pub mod Products
 pub mod Ratios

@@ -4,7 +4,7 @@ use Rattle.std.specs.Prelude.{ℤ, pos, ◌+ℤ◌, ◌*ℤ◌, if◌then◌else
 use Rattle.std.specs.Global.{Global}
 use Rattle.std.proofs.lemmas.Int.{ints}
 use Rattle.slab_master.specs.Given.{Entry, Column, Row, columns_of}
-use Rattle.slab_master.specs.Sums.{number_at, product_of, right_product, coefficient, row_sum}
+use Rattle.slab_master.specs.Sums.{number_at, product_of, right_product, coefficient, row_sum, cost_sum}
 
 regroup : (total next whole rest part all : ℤ) → next ≡ total +ℤ part → whole ≡ part +ℤ rest → (total +ℤ whole) ≡ all → (next +ℤ rest) ≡ all
 regroup total next whole rest part all e f g = omega (arith, ints)
@@ -53,4 +53,16 @@ row_step ks columns row j d total next first second more before =
     let split_columns : drop j columns ≡ get_or columns j d ∷ drop (j + 1) columns = rw add-one (drop-cons columns j d second) in
     let parts : row_sum (drop j ks) (columns_of (drop j columns)) row ≡ (number_at ks j *ℤ coefficient (get_or columns j d).items row) +ℤ row_sum (drop (j + 1) ks) (columns_of (drop (j + 1) columns)) row =
     ap (λ (us : List ℤ). row_sum us (columns_of (drop j columns)) row) split_ks ∙ ap (λ (us : List (Vec Entry Global)). row_sum (number_at ks j ∷ drop (j + 1) ks) (columns_of us) row) split_columns in
+    regroup total next _ _ _ _ more parts before
+
+-- one cost more
+pub cost_step : (ks costs : List ℤ) (j : ℕ) (total next : ℤ) → j < length ks → j < length costs
+    → next ≡ total +ℤ (number_at ks j *ℤ number_at costs j)
+    → (total +ℤ cost_sum (drop j ks) (drop j costs)) ≡ cost_sum ks costs
+    → (next +ℤ cost_sum (drop (j + 1) ks) (drop (j + 1) costs)) ≡ cost_sum ks costs
+cost_step ks costs j total next first second more before =
+    let split_ks : drop j ks ≡ number_at ks j ∷ drop (j + 1) ks = rw add-one (drop-cons ks j (pos 0) first) in
+    let split_costs : drop j costs ≡ number_at costs j ∷ drop (j + 1) costs = rw add-one (drop-cons costs j (pos 0) second) in
+    let parts : cost_sum (drop j ks) (drop j costs) ≡ (number_at ks j *ℤ number_at costs j) +ℤ cost_sum (drop (j + 1) ks) (drop (j + 1) costs) =
+    ap (λ (us : List ℤ). cost_sum us (drop j costs)) split_ks ∙ ap (cost_sum (number_at ks j ∷ drop (j + 1) ks)) split_costs in
     regroup total next _ _ _ _ more parts before

@@ -1,28 +1,30 @@
 -- What multipliers or prices show over one denominator, they show over each.
-use Rattle.std.proofs.Common.{◌≡◌, ℕ, zero, suc, ◌<◌, arith, ap, sym, subst, ◌∙◌, List, [], ◌∷◌, length, slice_index_or}
+use Rattle.std.proofs.Common.{◌≡◌, ℕ, zero, suc, ◌+◌, ◌*◌, ◌/◌, ◌%◌, ◌<◌, arith, ap, sym, subst, ◌∙◌, List, [], ◌∷◌, length, slice_index_or}
 use Rattle.std.specs.Prelude.{ℤ, pos, negsuc, ◌+ℤ◌, ◌*ℤ◌, ◌≤ℤ◌, ◌<ℤ◌, All}
 use Rattle.std.proofs.lemmas.Int.{ints, by_lt_z}
 use Rattle.slab_frac.specs.Fraction.{Fraction}
-use Rattle.slab_frac.specs.Scaled.{IsScaled}
+use Rattle.slab_frac.specs.Scaled.{IsScaled, IsCommonForm}
 use Rattle.slab_frac.proofs.Ring.{mul_swap_int, dist_right_int, mul_cancel_pos}
 use Rattle.slab_master.specs.declared.given.Sense.{Sense}
 use Rattle.slab_master.specs.declared.given.Sense.TheVariants.{Equal, AtMost}
 use Rattle.slab_master.specs.Given.{Column, Row}
-use Rattle.slab_master.specs.Sums.{number_at, product_of, right_product, coefficient, row_sum}
+use Rattle.slab_master.specs.Sums.{number_at, product_of, right_product, coefficient, row_sum, cost_sum}
 use Rattle.slab_master.specs.Prices.{AtMostZeroSense, ArePricesAt}
 use Rattle.slab_master.specs.Spread.{MeetsSense, IsSpreadAt}
+use Rattle.slab_master.specs.Denominators.{StandsOver}
+use Rattle.slab_master.specs.Least.{AreDualPricesAt, AreWorthTheCost}
 
 -- the two numbers stand to each other as d to e
 abbrev pub IsRatio : ℕ → ℕ → ℤ → ℤ → Type 0
 IsRatio d e k j = j *ℤ pos d ≡ k *ℤ pos e
 
-ratio_term : (d e : ℕ) (k j a : ℤ) → IsRatio d e k j → IsRatio d e (k *ℤ a) (j *ℤ a)
+pub ratio_term : (d e : ℕ) (k j a : ℤ) → IsRatio d e k j → IsRatio d e (k *ℤ a) (j *ℤ a)
 ratio_term d e k j a h = mul_swap_int j a (pos d) ∙ ap (λ (z : ℤ). z *ℤ a) h ∙ sym (mul_swap_int k a (pos e))
 
-ratio_sum : (d e : ℕ) (k j m n : ℤ) → IsRatio d e k j → IsRatio d e m n → IsRatio d e (k +ℤ m) (j +ℤ n)
+pub ratio_sum : (d e : ℕ) (k j m n : ℤ) → IsRatio d e k j → IsRatio d e m n → IsRatio d e (k +ℤ m) (j +ℤ n)
 ratio_sum d e k j m n h g = dist_right_int j n (pos d) ∙ ap (λ (z : ℤ). z +ℤ (n *ℤ pos d)) h ∙ ap (λ (z : ℤ). (k *ℤ pos e) +ℤ z) g ∙ sym (dist_right_int k m (pos e))
 
-ratio_zero : (d e : ℕ) → IsRatio d e (pos 0) (pos 0)
+pub ratio_zero : (d e : ℕ) → IsRatio d e (pos 0) (pos 0)
 ratio_zero d e = ap pos (omega arith)
 
 ratio_one : (d e : ℕ) (num k j : ℤ) (den : ℕ) → 0 < den → k *ℤ pos den ≡ num *ℤ pos d → j *ℤ pos den ≡ num *ℤ pos e → IsRatio d e k j
@@ -39,12 +41,12 @@ ratio_at d e (y ∷ ys) (k ∷ ks) [] h g i = absurd g
 ratio_at d e (y ∷ ys) (k ∷ ks) (j ∷ js) h g zero = ratio_one d e y.num k j y.den h.0.0 h.0.1 g.0.1
 ratio_at d e (y ∷ ys) (k ∷ ks) (j ∷ js) h g (suc i) = ratio_at d e ys ks js h.1 g.1 i
 
-product_ratio : (d e : ℕ) (ks js : List ℤ) → ((i : ℕ) → IsRatio d e (number_at ks i) (number_at js i)) → (es : Column) → IsRatio d e (product_of ks es) (product_of js es)
+pub product_ratio : (d e : ℕ) (ks js : List ℤ) → ((i : ℕ) → IsRatio d e (number_at ks i) (number_at js i)) → (es : Column) → IsRatio d e (product_of ks es) (product_of js es)
 product_ratio d e ks js h [] = ratio_zero d e
 product_ratio d e ks js h (x ∷ es) =
     ratio_sum d e _ _ _ _ (ratio_term d e (number_at ks x.0) (number_at js x.0) x.1 (h x.0)) (product_ratio d e ks js h es)
 
-right_ratio : (d e : ℕ) (ys : List Fraction) (ks js : List ℤ) → IsScaled d ys ks → IsScaled e ys js → (rows : List Row) → IsRatio d e (right_product ks rows) (right_product js rows)
+pub right_ratio : (d e : ℕ) (ys : List Fraction) (ks js : List ℤ) → IsScaled d ys ks → IsScaled e ys js → (rows : List Row) → IsRatio d e (right_product ks rows) (right_product js rows)
 right_ratio d e [] [] [] h g rows = ratio_zero d e
 right_ratio d e [] [] (j ∷ js) h g rows = absurd g
 right_ratio d e [] (k ∷ ks) js h g rows = absurd h
@@ -65,7 +67,7 @@ row_ratio d e (x ∷ xs) (k ∷ ks) (j ∷ js) h g (c ∷ columns) i =
     ratio_sum d e _ _ _ _ (ratio_term d e k j (coefficient c i) (ratio_at d e (x ∷ xs) (k ∷ ks) (j ∷ js) h g zero)) (row_ratio d e xs ks js h.1 g.1 columns i)
 
 -- a factor keeps the order, and one above 0 can be taken off
-le_mul : (a b : ℤ) (n : ℕ) → a ≤ℤ b → (a *ℤ pos n) ≤ℤ (b *ℤ pos n)
+pub le_mul : (a b : ℤ) (n : ℕ) → a ≤ℤ b → (a *ℤ pos n) ≤ℤ (b *ℤ pos n)
 le_mul a b zero h = omega (arith, ints)
 le_mul a b (suc n) h =
     let before : (a *ℤ pos n) ≤ℤ (b *ℤ pos n) = le_mul a b n h in
@@ -78,12 +80,12 @@ lt_mul a b n p h =
     let one : pos 1 *ℤ pos n ≡ pos n = ap pos (omega arith) in
     omega (arith, ints, next, spread, one)
 
-le_cancel : (a b : ℤ) (n : ℕ) → 0 < n → (a *ℤ pos n) ≤ℤ (b *ℤ pos n) → a ≤ℤ b
+pub le_cancel : (a b : ℤ) (n : ℕ) → 0 < n → (a *ℤ pos n) ≤ℤ (b *ℤ pos n) → a ≤ℤ b
 le_cancel a b n p h =
     by_lt_z b a (λ less. let more : (b *ℤ pos n) <ℤ (a *ℤ pos n) = lt_mul b a n p less in absurd (omega (arith, ints, more, h))) (λ le. le)
 
 -- a bound over d is the bound over e
-ratio_le : (d e : ℕ) (k j r : ℤ) → 0 < d → IsRatio d e k j → k ≤ℤ (r *ℤ pos d) → j ≤ℤ (r *ℤ pos e)
+pub ratio_le : (d e : ℕ) (k j r : ℤ) → 0 < d → IsRatio d e k j → k ≤ℤ (r *ℤ pos d) → j ≤ℤ (r *ℤ pos e)
 ratio_le d e k j r p h le =
     le_cancel j (r *ℤ pos e) d p
     (subst (λ (z : ℤ). z ≤ℤ ((r *ℤ pos e) *ℤ pos d)) (sym h)
@@ -113,7 +115,7 @@ ratio_not_negative d e k j p h le =
     (subst (λ (z : ℤ). (pos 0 *ℤ pos d) ≤ℤ z) (sym h)
     (subst (λ (z : ℤ). z ≤ℤ (k *ℤ pos e)) (nothing e ∙ sym (nothing d)) (le_mul (pos 0) k e le)))
 
-sign_ratio : (d e : ℕ) (s : Sense) (k j : ℤ) → 0 < d → IsRatio d e k j → AtMostZeroSense s k → AtMostZeroSense s j
+pub sign_ratio : (d e : ℕ) (s : Sense) (k j : ℤ) → 0 < d → IsRatio d e k j → AtMostZeroSense s k → AtMostZeroSense s j
 sign_ratio d e Equal k j p h a = tt
 sign_ratio d e AtMost k j p h a = ratio_at_most_zero d e k j p h a
 
@@ -149,3 +151,59 @@ spread_at_every rows columns xs d ks p scaled h e js q g =
       not_negative = not_negative_at d e xs ks js p scaled g h.not_negative;
       met = λ i row inside. meets_ratio d e (slice_index_or rows i row).0 _ _ (slice_index_or rows i row).1 p (row_ratio d e xs ks js scaled g columns i) (h.met i row inside);
     }
+
+-- the dual prices show the same over every denominator
+pub duals_at_every : (rows : List Row) (columns : List Column) (costs : List ℤ) (ys : List Fraction) (d : ℕ) (ks : List ℤ) → 0 < d → IsScaled d ys ks → AreDualPricesAt rows columns costs d ks → (e : ℕ) (js : List ℤ) → 0 < e → IsScaled e ys js → AreDualPricesAt rows columns costs e js
+duals_at_every rows columns costs ys d ks p scaled h e js q g =
+    let at : (i : ℕ) → IsRatio d e (number_at ks i) (number_at js i) = ratio_at d e ys ks js scaled g in
+    record {
+      signs = λ i row inside. sign_ratio d e (slice_index_or rows i row).0 _ _ p (at i) (h.signs i row inside);
+      products = λ j column inside. ratio_le d e _ _ (number_at costs j) p (product_ratio d e ks js at (slice_index_or columns j column)) (h.products j column inside);
+    }
+
+cost_ratio : (d e : ℕ) (xs : List Fraction) (ks js : List ℤ) → IsScaled d xs ks → IsScaled e xs js → (costs : List ℤ) → IsRatio d e (cost_sum ks costs) (cost_sum js costs)
+cost_ratio d e [] [] [] h g costs = ratio_zero d e
+cost_ratio d e [] [] (j ∷ js) h g costs = absurd g
+cost_ratio d e [] (k ∷ ks) js h g costs = absurd h
+cost_ratio d e (x ∷ xs) [] js h g costs = absurd h
+cost_ratio d e (x ∷ xs) (k ∷ ks) [] h g costs = absurd g
+cost_ratio d e (x ∷ xs) (k ∷ ks) (j ∷ js) h g [] = ratio_zero d e
+cost_ratio d e (x ∷ xs) (k ∷ ks) (j ∷ js) h g (c ∷ costs) =
+    ratio_sum d e _ _ _ _ (ratio_term d e k j c (ratio_at d e (x ∷ xs) (k ∷ ks) (j ∷ js) h g zero)) (cost_ratio d e xs ks js h.1 g.1 costs)
+
+-- one number over d and e is one number over d2 and e2
+same_worth : (d e d2 e2 : ℕ) (cost worth cost2 worth2 : ℤ) → 0 < d → 0 < e → worth *ℤ pos d ≡ cost *ℤ pos e → IsRatio d d2 cost cost2 → IsRatio e e2 worth worth2 → worth2 *ℤ pos d2 ≡ cost2 *ℤ pos e2
+same_worth d e d2 e2 cost worth cost2 worth2 p q same first second =
+    mul_cancel_pos (worth2 *ℤ pos d2) (cost2 *ℤ pos e2) d p
+    (mul_cancel_pos ((worth2 *ℤ pos d2) *ℤ pos d) ((cost2 *ℤ pos e2) *ℤ pos d) e q
+    (ap (λ (z : ℤ). z *ℤ pos e) (mul_swap_int worth2 (pos d2) (pos d))
+    ∙ mul_swap_int (worth2 *ℤ pos d) (pos d2) (pos e)
+    ∙ ap (λ (z : ℤ). z *ℤ pos d2) (mul_swap_int worth2 (pos d) (pos e) ∙ ap (λ (z : ℤ). z *ℤ pos d) second)
+    ∙ ap (λ (z : ℤ). z *ℤ pos d2) (mul_swap_int worth (pos e2) (pos d) ∙ ap (λ (z : ℤ). z *ℤ pos e2) same)
+    ∙ mul_swap_int (cost *ℤ pos e) (pos e2) (pos d2)
+    ∙ ap (λ (z : ℤ). z *ℤ pos e2) (mul_swap_int cost (pos e) (pos d2) ∙ ap (λ (z : ℤ). z *ℤ pos e) (sym first))
+    ∙ mul_swap_int (cost2 *ℤ pos d) (pos e) (pos e2)
+    ∙ ap (λ (z : ℤ). z *ℤ pos e) (mul_swap_int cost2 (pos d) (pos e2))))
+
+pub worth_at_every : (rows : List Row) (costs : List ℤ) (xs ys : List Fraction) (d e : ℕ) (ks js : List ℤ) → 0 < d → 0 < e → IsScaled d xs ks → IsScaled e ys js → right_product js rows *ℤ pos d ≡ cost_sum ks costs *ℤ pos e → AreWorthTheCost rows costs xs ys
+worth_at_every rows costs xs ys d e ks js p q over_d over_e same d2 e2 ks2 js2 p2 q2 over_d2 over_e2 =
+    same_worth d e d2 e2 _ _ _ _ p q same (cost_ratio d d2 xs ks ks2 over_d over_d2 costs) (right_ratio e e2 ys js js2 over_e over_e2 rows)
+
+-- one number, from its whole part and what is left
+same_quotient : (l d r o : ℕ) → l / d ≡ r / o → l % d * o ≡ r % o * d → l * o ≡ r * d
+same_quotient l d r o whole left =
+    apart l d r o (l / d) (r / o) (l % d) (r % o) (omega arith) (omega arith) whole left
+  where
+    apart : (l d r o p q s t : ℕ) → l ≡ d * p + s → r ≡ o * q + t → p ≡ q → s * o ≡ t * d → l * o ≡ r * d
+    apart l d r o p q s t e f same left = rw (e, f, same) (parts d o q s t left)
+      where
+        parts : (d o q s t : ℕ) → s * o ≡ t * d → (d * q + s) * o ≡ (o * q + t) * d
+        parts d o q s t left = omega (arith, left)
+
+pub one_number : (l r b o : ℕ) (left right den other : ℤ) → left ≡ pos l → right ≡ pos r → den ≡ pos b → other ≡ pos o → l / b ≡ r / o → l % b * o ≡ r % o * b → left *ℤ other ≡ right *ℤ den
+one_number l r b o left right den other e f g h whole rest = rw (e, f, g, h) (ap pos (same_quotient l b r o whole rest))
+
+-- what a list is brought to stands over its denominator
+pub stands_over : (xs : List Fraction) (z e : ℤ) (ks : List ℤ) → IsCommonForm xs z ks → z ≡ e → StandsOver e xs ks
+stands_over xs z e ks form is =
+    subst (λ (y : ℤ). StandsOver y xs ks) is (record { denominator = (form.least.positive, form.positive); scaled = form.scaled })

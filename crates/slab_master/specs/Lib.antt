@@ -1,7 +1,10 @@
+pub mod Denominators
 pub mod Given
+pub mod Least
 pub mod Lending
 pub mod Outcomes
 pub mod Prices
+pub mod Problems
 pub mod Spread
 pub mod StallCounts
 pub mod Sums

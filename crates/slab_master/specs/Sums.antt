@@ -26,3 +26,9 @@ abbrev pub row_sum : List ℤ → List Column → ℕ → ℤ
 row_sum [] columns i = pos 0
 row_sum (k ∷ ks) [] i = pos 0
 row_sum (k ∷ ks) (c ∷ columns) i = (k *ℤ coefficient c i) +ℤ row_sum ks columns i
+
+-- what multipliers cost
+abbrev pub cost_sum : List ℤ → List ℤ → ℤ
+cost_sum [] costs = pos 0
+cost_sum (k ∷ ks) [] = pos 0
+cost_sum (k ∷ ks) (c ∷ costs) = (k *ℤ c) +ℤ cost_sum ks costs

@@ -2,29 +2,33 @@ ghost use Rattle.std.specs.Prelude.{ℕ, ◌≡◌, ◌+◌, ◌*◌, ◌^◌, �
 ghost use Rattle.slab_frac.specs.Fraction.{Fraction};
 ghost use Rattle.slab_counter.specs.Counter.{Rose};
 ghost use Rattle.slab_master.specs.Given.{Row, Entry, columns_of};
+ghost use Rattle.slab_master.specs.Denominators.{StandsOver};
 ghost use Rattle.slab_master.specs.Sums.{number_at, product_of, right_product, coefficient, row_sum};
 ghost use Rattle.slab_master.specs.Spread.{Meets, IsSpread};
 ghost use Rattle.slab_master.specs.Prices.{AtMostZero, ArePrices};
 
 use crate::given::Sense;
+use crate::problem::Problem;
 use slab_frac::{Frac, Wides, scale_all};
 
 /// What a test of an answer found.
+#[derive(Clone, Copy)]
 pub(crate) enum Tested {
-    Holds,
+    /// It holds, as the whole numbers over this denominator show.
+    Holds(i64),
     Fails,
     Wide,
 }
 
 /// The product of two numbers.
-fn term(number: i64, entry: i64) -> i128
+pub(crate) fn term(number: i64, entry: i64) -> i128
     ensures { result ≡ number *ℤ entry }
 {
     number as i128 * entry as i128
 }
 
 /// The product of one number per row with a column, or none beyond 128 bits.
-fn column_product(numbers: &[i64], column: &[(u16, i64)]) -> Option<i128>
+pub(crate) fn column_product(numbers: &[i64], column: &[(u16, i64)]) -> Option<i128>
     requires { All (λ e. e.0 < length numbers.now) column.now }
     ensures { IfSome result (λ z. z ≡ product_of numbers.now column.now) }
 {
@@ -36,7 +40,7 @@ fn column_product(numbers: &[i64], column: &[(u16, i64)]) -> Option<i128>
 }
 
 /// The product of one number per row with the right sides, or none beyond 128 bits.
-fn right_total(numbers: &[i64], rows: &[(Sense, i64)]) -> Option<i128>
+pub(crate) fn right_total(numbers: &[i64], rows: &[(Sense, i64)]) -> Option<i128>
     requires { length numbers.now ≡ length rows.now }
     ensures { IfSome result (λ z. z ≡ right_product numbers.now rows.now) }
 {
@@ -48,7 +52,7 @@ fn right_total(numbers: &[i64], rows: &[(Sense, i64)]) -> Option<i128>
 }
 
 /// Whether the numbers are at most 0 on the AtMost rows.
-fn signs_hold(numbers: &[i64], rows: &[(Sense, i64)]) -> bool
+pub(crate) fn signs_hold(numbers: &[i64], rows: &[(Sense, i64)]) -> bool
     requires { length numbers.now ≡ length rows.now }
     ensures { IsTrue result → (i : ℕ) (row : Row) → i < length rows.now → AtMostZero (slice_index_or rows.now i row) (number_at numbers.now i) }
 {
@@ -76,27 +80,25 @@ fn products_hold(numbers: &[i64], columns: &[Vec<(u16, i64)>]) -> bool
 
 /// Tests prices, one per row, against the rows and columns. `scaled` is room for a whole number per row.
 pub(crate) fn test_prices(
-    rows: &[(Sense, i64)],
-    columns: &[Vec<(u16, i64)>],
+    problem: &Problem<'_>,
     prices: &[Frac],
     scaled: &mut [i64],
     wides: &mut Wides,
 ) -> Tested
-    requires prices { length prices.now ≡ length rows.now }
-    requires scaled { length scaled.old ≡ length rows.now }
-    requires columns { All (λ c. All (λ e. e.0 < length rows.now) c.items) columns.now }
+    requires prices { length prices.now ≡ length problem.now.rows.now }
+    requires scaled { length scaled.old ≡ length problem.now.rows.now }
     ensures grows { wides.old ≤ wides.new }
-    ensures holds { result ≡ Tested.Holds → ArePrices rows.now (columns_of columns.now) prices.now }
+    ensures holds { (d : ℤ) → result ≡ Tested.Holds d → ArePrices problem.now.rows.now (columns_of problem.now.columns.now) prices.now }
     ensures wide { result ≡ Tested.Wide → Rose wides.old wides.new }
 {
-    let Some(_denominator) = scale_all(prices, wides, scaled) else {
+    let Some(denominator) = scale_all(prices, wides, scaled) else {
         return Tested::Wide;
     };
-    if !signs_hold(scaled, rows) || !products_hold(scaled, columns) {
+    if !signs_hold(scaled, problem.rows) || !products_hold(scaled, problem.columns) {
         return Tested::Fails;
     }
-    match right_total(scaled, rows) {
-        Some(total) if total > 0 => Tested::Holds,
+    match right_total(scaled, problem.rows) {
+        Some(total) if total > 0 => Tested::Holds(denominator),
         _ => Tested::Fails,
     }
 }
@@ -189,23 +191,23 @@ fn rows_hold(
 
 /// Tests multipliers, one per column, against the rows and columns. `scaled` is room for a whole number per column.
 pub(crate) fn test_spread(
-    rows: &[(Sense, i64)],
-    columns: &[Vec<(u16, i64)>],
+    problem: &Problem<'_>,
     spread: &[Frac],
     scaled: &mut [i64],
     wides: &mut Wides,
 ) -> Tested
-    requires spread { length spread.now ≡ length columns.now }
-    requires scaled { length scaled.old ≡ length columns.now }
+    requires spread { length spread.now ≡ length problem.now.columns.now }
+    requires scaled { length scaled.old ≡ length problem.now.columns.now }
     ensures grows { wides.old ≤ wides.new }
-    ensures holds { result ≡ Tested.Holds → IsSpread rows.now (columns_of columns.now) spread.now }
+    ensures holds { (d : ℤ) → result ≡ Tested.Holds d → IsSpread problem.now.rows.now (columns_of problem.now.columns.now) spread.now }
+    ensures scaled { (d : ℤ) → result ≡ Tested.Holds d → StandsOver d spread.now scaled.new }
     ensures wide { result ≡ Tested.Wide → Rose wides.old wides.new }
 {
     let Some(denominator) = scale_all(spread, wides, scaled) else {
         return Tested::Wide;
     };
-    if none_negative(scaled) && rows_hold(rows, columns, denominator, scaled) {
-        return Tested::Holds;
+    if none_negative(scaled) && rows_hold(problem.rows, problem.columns, denominator, scaled) {
+        return Tested::Holds(denominator);
     }
     Tested::Fails
 }

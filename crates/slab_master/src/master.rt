@@ -1,13 +1,16 @@
-ghost use Rattle.std.specs.Prelude.{ℕ, ◌≡◌, ◌≤◌, ◌<◌, ◌++◌, ◌∷◌, [], length, OnOk, OnErr, IfOk};
+ghost use Rattle.std.specs.Prelude.{ℕ, ◌≡◌, ◌≤◌, ◌<◌, ◌++◌, ◌∷◌, [], length, vec_len, All, OnOk, OnErr, IfOk};
 ghost use Rattle.std.specs.Borrow.{sem};
-ghost use Rattle.slab_master.specs.Given.{AreRows, IsColumn, IsGiven};
+ghost use Rattle.slab_master.specs.Given.{AreRows, IsColumn, IsGiven, IsSmall};
+ghost use Rattle.slab_master.specs.Least.{AreCosts};
 ghost use Rattle.slab_master.specs.StallCounts.{RoseAtMost};
-ghost use Rattle.slab_master.specs.Outcomes.{OutcomeHolds, stalls_after};
+ghost use Rattle.slab_master.specs.Outcomes.{OutcomeHolds, stalls_after, LeastHolds, stalls_after_least};
 
 use crate::given::Sense;
-use crate::outcome::Outcome;
+use crate::likely::write_likely;
+use crate::outcome::{Answer, Ended, Least, Outcome};
+use crate::problem::{Aim, Problem};
+use crate::search::Basis;
 use crate::stalls::Stalls;
-use crate::tableau::Tableau;
 use crate::turns::solve_over;
 use slab_frac::{Frac, Wides};
 use std::alloc::{AllocError, Global};
@@ -18,22 +21,38 @@ use std::marker::Model;
 pub struct Master {
     rows: Vec<(Sense, i64)>,
     columns: Vec<Vec<(u16, i64)>>,
-    tableau: Tableau,
+    working: Vec<Vec<Frac>>,
+    basis: Basis,
+
+    /// The columns that were basic at the end of the solve before, or that were hinted since.
+    likely: Vec<usize>,
 }
 
 impl Model for Master {
-    ghost use Rattle.std.specs.Prelude.{◌≡◌, vec_len};
+    ghost use Rattle.std.specs.Prelude.{◌≡◌, ◌<◌, vec_len, All};
     ghost use Rattle.slab_master.specs.Given.{Given, IsGiven, columns_of};
 
     ghost Value = { Given };
 
     ghost view = { λ m. record { rows = m.rows.items; columns = columns_of m.columns.items } };
 
-    ghost invariant = { λ m. IsGiven (record { rows = m.rows.items; columns = columns_of m.columns.items }) × (vec_len m.tableau.rows ≡ vec_len m.rows) };
+    ghost invariant = { λ m. IsGiven (record { rows = m.rows.items; columns = columns_of m.columns.items }) × (vec_len m.working ≡ vec_len m.rows) × All (λ j. j < vec_len m.columns) m.likely.items };
+}
+
+/// So many empty rows.
+fn empty_rows(alloc: Global, count: usize) -> Result<Vec<Vec<Frac>>, AllocError>
+    ensures { IfOk result (λ v. vec_len v ≡ count) }
+{
+    let mut rows = Vec::new(alloc);
+    for _row in 0..count {
+        rows.push(Vec::new(alloc))?;
+    }
+    Ok(rows)
 }
 
 impl Master {
     ghost use Rattle.slab_master.specs.Lending.{LendsWorkingRow};
+    ghost use Rattle.slab_master.specs.Problems.{EndedAs, stalls_after_end};
 
     /// A master with these rows and no column. The right sides are of absolute value at most 2^40.
     pub fn new(alloc: Global, rows: &[(Sense, i64)]) -> Result<Master, AllocError>
@@ -43,7 +62,9 @@ impl Master {
         Ok(Master {
             rows: Vec::from_slice(alloc, rows)?,
             columns: Vec::new(alloc),
-            tableau: Tableau::new(alloc, rows.len())?,
+            working: empty_rows(alloc, rows.len())?,
+            basis: Basis::new(alloc),
+            likely: Vec::with_capacity(alloc, rows.len())?,
         })
     }
 
@@ -57,6 +78,58 @@ impl Master {
         let entries = Vec::from_slice(alloc, entries)?;
         self.columns.push(entries)?;
         Ok(())
+    }
+
+    /// Says which given columns are likely basic, so that the search for a basis begins with them where it begins anew. It
+    /// changes no claim; a number past the columns is passed over, and so are more columns than there are rows.
+    pub fn hint(&mut self, columns: &[usize])
+        ensures { self.new ≡ self.old }
+    {
+        write_likely(&mut self.likely, columns, self.columns.len());
+    }
+
+    /// The columns that were basic at the end of the solve before, or that were hinted since.
+    pub fn basics(&self) -> &[usize]
+        ensures { All (λ j. j < length self.now.columns) result.now }
+    {
+        self.likely.as_slice()
+    }
+
+    /// Solves for a goal, and notes which columns are basic then.
+    fn run(
+        &mut self,
+        alloc: Global,
+        costs: &[i64],
+        goal: Aim,
+        wides: &mut Wides,
+        stalls: &mut Stalls,
+    ) -> Result<Ended, AllocError>
+        requires small { All IsSmall costs.now }
+        requires priced { goal ≡ Aim.Lessen → length costs.now ≡ length self.old.columns }
+        ensures holds { IfOk result (EndedAs self.old costs.now goal wides.old wides.new stalls.old stalls.new) }
+        ensures given { self.new ≡ self.old }
+        ensures wides_grow { wides.old ≤ wides.new }
+        ensures pivots { RoseAtMost 20000 stalls.old.pivots stalls.new.pivots }
+        ensures stalls { IfOk result (λ e. stalls.new.stalls ≡ stalls_after_end e stalls.old.stalls) }
+        ensures err { OnErr result (stalls.new.stalls ≡ stalls.old.stalls) }
+    {
+        let problem = Problem {
+            rows: &self.rows,
+            columns: &self.columns,
+            costs,
+            goal,
+            likely: &self.likely,
+        };
+        let ended = solve_over(
+            alloc,
+            &problem,
+            &mut self.working,
+            &mut self.basis,
+            wides,
+            stalls,
+        )?;
+        self.basis.note(self.columns.len(), &mut self.likely);
+        Ok(ended)
     }
 
     /// Finds multipliers for the given columns that meet every row, or prices that show that there are none. It goes on
@@ -76,14 +149,41 @@ impl Master {
         ensures stalls { IfOk result (λ o. stalls.new.stalls ≡ stalls_after o stalls.old.stalls) }
         ensures err { OnErr result (stalls.new.stalls ≡ stalls.old.stalls) }
     {
-        solve_over(
-            alloc,
-            &self.rows,
-            &self.columns,
-            &mut self.tableau,
-            wides,
-            stalls,
-        )
+        match self.run(alloc, &[], Aim::Meet, wides, stalls)? {
+            Ended::Answered(Answer::Meets(spread)) => Ok(Outcome::Spread(spread)),
+            Ended::Answered(Answer::Best { x, y: _ }) => Ok(Outcome::Spread(x)),
+            Ended::Answered(Answer::Refutes(prices)) => Ok(Outcome::Prices(prices)),
+            Ended::LeftRange => Ok(Outcome::Wide),
+            Ended::GaveUp => Ok(Outcome::Stalled),
+        }
+    }
+
+    /// Finds multipliers of least cost, with prices of the rows that show that none cost less, or prices that show that no
+    /// multipliers meet every row. Each given column has a cost, 0 to 2^40. It goes on from where the solve before ended, as
+    /// `solve` does, and `Wide`, `Stalled` and the counts are as there. The rows and the columns are as before after each
+    /// outcome, and after an error too.
+    pub fn solve_least(
+        &mut self,
+        alloc: Global,
+        costs: &[i64],
+        wides: &mut Wides,
+        stalls: &mut Stalls,
+    ) -> Result<Least, AllocError>
+        requires { AreCosts (length self.old.columns) costs.now }
+        ensures holds { IfOk result (λ o. LeastHolds self.old costs.now wides.old wides.new stalls.old stalls.new o) }
+        ensures given { self.new ≡ self.old }
+        ensures wides_grow { wides.old ≤ wides.new }
+        ensures pivots { RoseAtMost 20000 stalls.old.pivots stalls.new.pivots }
+        ensures stalls { IfOk result (λ o. stalls.new.stalls ≡ stalls_after_least o stalls.old.stalls) }
+        ensures err { OnErr result (stalls.new.stalls ≡ stalls.old.stalls) }
+    {
+        match self.run(alloc, costs, Aim::Lessen, wides, stalls)? {
+            Ended::Answered(Answer::Meets(_spread)) => unreachable!(),
+            Ended::Answered(Answer::Best { x, y }) => Ok(Least::Best { x, y }),
+            Ended::Answered(Answer::Refutes(prices)) => Ok(Least::Prices(prices)),
+            Ended::LeftRange => Ok(Least::Wide),
+            Ended::GaveUp => Ok(Least::Stalled),
+        }
     }
 
     /// Lends one working row for writing, which is empty before the first solve. What was given stays, and the next solve
@@ -92,7 +192,7 @@ impl Master {
         requires { i < length self.old.rows }
         ensures* { sem 𝓛 (LendsWorkingRow self.entry result) }
     {
-        self.tableau.live = false;
-        self.tableau.rows[i].as_mut_slice()
+        self.basis.set_standing(false);
+        self.working[i].as_mut_slice()
     }
 }

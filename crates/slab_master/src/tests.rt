@@ -1,7 +1,8 @@
 ghost use Rattle.std.specs.Prelude.{ℕ, ◌≡◌, ◌^◌, ◌<◌, ◌≤◌, unsigned_abs, All, IsTrue, length, IfOk};
 ghost use Rattle.slab_master.specs.Given.{AreRows, IsColumn, IsSmall};
+ghost use Rattle.slab_master.specs.Least.{AreCosts};
 
-use crate::{Master, Outcome, Sense, Stalls};
+use crate::{Least, Master, Outcome, Sense, Stalls};
 use slab_frac::{Frac, Wides};
 use std::alloc::Global;
 use std::test::Fail;
@@ -42,7 +43,8 @@ fn master_of(
     rows: &[(Sense, i64)],
     columns: &[&[(u16, i64)]],
 ) -> Result<Master, Fail>
-    ensures { IfOk result (λ m. m.rows ≡ rows.now) }
+    ensures rows { IfOk result (λ m. m.rows ≡ rows.now) }
+    ensures columns { IfOk result (λ m. length m.columns ≡ length columns.now) }
 {
     if !are_rows(rows) {
         return Err(Fail::from("rows"));
@@ -79,6 +81,7 @@ fn is_prices(outcome: &Outcome) -> bool {
     }
 }
 
+// Two orders, each on its own slab or both on a third column's, with at most one slab.
 #[test]
 fn two_orders_on_one_slab(rt: HostRuntime) -> Result<(), Fail> {
     let rows = [(Sense::Equal, 1), (Sense::Equal, 1), (Sense::AtMost, 1)];
@@ -87,17 +90,79 @@ fn two_orders_on_one_slab(rt: HostRuntime) -> Result<(), Fail> {
     let mut stalls = Stalls::new();
     let outcome = master.solve(rt.alloc(), &mut wides, &mut stalls)?;
     assert!(rt; is_prices(&outcome));
-    for cell in master.row_mut(1).iter_mut() {
-        *cell = Frac::whole(7);
-    }
     let both = [(0, 1), (1, 1), (2, 1)];
     assert!(rt; is_column(&both, 3));
     master.add_column(rt.alloc(), &both)?;
     let outcome = master.solve(rt.alloc(), &mut wides, &mut stalls)?;
     assert!(rt; is_spread(&outcome, &[(0, 1), (0, 1), (1, 1)]));
+    assert!(rt; master.basics().contains(&2));
     assert_eq!(rt; wides.count(), 0);
     assert_eq!(rt; stalls.count(), 0);
     assert!(rt; stalls.pivots() > 0);
+    Ok(())
+}
+
+#[test]
+fn lends_a_working_row(rt: HostRuntime) -> Result<(), Fail> {
+    let rows = [(Sense::Equal, 1), (Sense::Equal, 1), (Sense::AtMost, 1)];
+    let mut master = master_of(rt.alloc(), &rows, &[&[(0, 1), (1, 1), (2, 1)]])?;
+    let mut wides = Wides::new();
+    let mut stalls = Stalls::new();
+    let outcome = master.solve(rt.alloc(), &mut wides, &mut stalls)?;
+    assert!(rt; is_spread(&outcome, &[(1, 1)]));
+    let first = master.row_mut(0).to_vec(rt.alloc())?;
+    assert!(rt; !master.row_mut(1).is_empty());
+    for cell in master.row_mut(1).iter_mut() {
+        *cell = Frac::whole(7);
+    }
+    assert_eq!(rt; master.row_mut(0).to_vec(rt.alloc())?, first);
+    let outcome = master.solve(rt.alloc(), &mut wides, &mut stalls)?;
+    assert!(rt; is_spread(&outcome, &[(1, 1)]));
+    Ok(())
+}
+
+// Whether the answer is of these multipliers.
+fn is_best(least: &Least, expected: &[i64]) -> bool {
+    match least {
+        Least::Best { x, y: _ } => {
+            let list = x.list();
+            list.len() == expected.len()
+                && list
+                    .iter()
+                    .zip(expected)
+                    .all(|(x, y)| x.num() == *y && x.den() == 1)
+        }
+        _ => false,
+    }
+}
+
+fn are_costs(costs: &[i64]) -> bool
+    ensures { IsTrue result → AreCosts (length costs.now) costs.now }
+{
+    costs
+        .iter()
+        .all(|cost| *cost >= 0 && cost.unsigned_abs() <= SMALL)
+}
+
+// Two orders on slabs of their own or together, without a limit on slabs.
+#[test]
+fn two_orders_at_least_cost(rt: HostRuntime) -> Result<(), Fail> {
+    let rows = [(Sense::Equal, 1), (Sense::Equal, 1)];
+    let mut master = master_of(
+        rt.alloc(),
+        &rows,
+        &[&[(0, 1)], &[(1, 1)], &[(0, 1), (1, 1)]],
+    )?;
+    let mut wides = Wides::new();
+    let mut stalls = Stalls::new();
+    master.hint(&[2]);
+    for (costs, expected) in [([0, 0, 2], [1, 1, 0]), ([3, 3, 2], [0, 0, 1])] {
+        assert!(rt; are_costs(&costs));
+        let least = master.solve_least(rt.alloc(), &costs, &mut wides, &mut stalls)?;
+        assert!(rt; is_best(&least, &expected));
+    }
+    assert_eq!(rt; wides.count(), 0);
+    assert_eq!(rt; stalls.count(), 0);
     Ok(())
 }
 

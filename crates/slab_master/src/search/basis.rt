@@ -1,0 +1,454 @@
+//! The state of the search, and its steps.
+
+ghost use Rattle.std.specs.Prelude.{ℕ, ◌≡◌, ◌<◌, ◌≤◌, length, All, IfOk, IfNone};
+ghost use Rattle.slab_counter.specs.Counter.{Rose};
+ghost use Rattle.slab_master.specs.Given.{IsColumn, IsSmall};
+
+use crate::given::Sense;
+use crate::likely::add_likely;
+use crate::problem::{Aim, Problem};
+use crate::search::basic::Basic;
+use crate::search::cells::{
+    cell_at, clear_cells, clear_column, clear_rows, combined, divide_row, put, right_side,
+    subtract_multiple, turned,
+};
+use crate::search::entering::{Pricing, choose_entering, turn_back};
+use crate::search::leaving::{Leaving, leaving_row};
+use slab_frac::{Frac, Wides, scale_all};
+use std::alloc::{AllocError, Global};
+use std::mem;
+
+/// After so many pivots that moved nothing, and 4 more for each row, the first column or slack whose reduced cost is below 0
+/// enters, so that no basis comes again (Bland's rule).
+const IDLE: usize = 64;
+
+/// What one step did, or what the basis shows.
+pub(crate) enum Step {
+    Moved,
+    Meets,
+    Refutes,
+    Least,
+    /// Nothing bounds the entering column, which exact rows never make happen.
+    Lost,
+    Wide,
+}
+
+/// What may enter.
+enum Choice {
+    Enters(Basic),
+    Nothing,
+    Wide,
+}
+
+/// The basis of the working rows. These are its inverse: a cell for the unit column of each row, and the right side. A row
+/// whose right side is negative stands with all signs turned.
+#[derive(Drop)]
+pub(crate) struct Basis {
+    /// What is basic in each row.
+    pub(crate) basics: Vec<Basic>,
+
+    /// The reduced costs of the unit columns, and less the value of the aim in the place of the right side.
+    pub(crate) reduced: Vec<Frac>,
+
+    /// What the reduced costs are of.
+    aim: Aim,
+
+    /// The entering column by the basis, with its reduced cost at the end.
+    direction: Vec<Frac>,
+
+    /// Room for the row that a pivot takes out.
+    taken: Vec<Frac>,
+
+    /// Room for a whole number for each row.
+    scaled: Vec<i64>,
+
+    /// How many pivots in a row moved nothing.
+    idle: usize,
+
+    /// Whether preferred columns enter first.
+    prefers: bool,
+
+    /// Whether the working rows stand as an answer left them.
+    stands: bool,
+}
+
+/// What a basic variable weighs in the value of an aim.
+fn weight_of(basic: Basic, aim: Aim, costs: &[i64]) -> i64
+    requires { All IsSmall costs.now }
+    ensures { IsSmall result }
+{
+    match (aim, basic) {
+        (Aim::Meet, Basic::Artificial) => 1,
+        (Aim::Lessen, Basic::Column(place)) if place < costs.len() => costs[place],
+        _ => 0,
+    }
+}
+
+/// Takes each working row off the reduced costs, times what is basic there weighs. None comes only where a fraction left its
+/// range.
+fn take_weights(
+    reduced: &mut [Frac],
+    working: &[Vec<Frac>],
+    basics: &[Basic],
+    aim: Aim,
+    costs: &[i64],
+    wides: &mut Wides,
+) -> Option<()>
+    requires { All IsSmall costs.now }
+    ensures grows { wides.old ≤ wides.new }
+    ensures wide { IfNone result (Rose wides.old wides.new) }
+{
+    for (row, basic) in working.iter().zip(basics) {
+        let weight = weight_of(*basic, aim, costs);
+        if weight != 0 {
+            subtract_multiple(reduced, row.as_slice(), &turned(weight, false), wides)?;
+        }
+    }
+    Some(())
+}
+
+/// Writes the cells of a column, one for each row. None comes only where a fraction left its range.
+fn fill_direction(
+    direction: &mut [Frac],
+    working: &[Vec<Frac>],
+    problem: &Problem<'_>,
+    column: &[(u16, i64)],
+    wides: &mut Wides,
+) -> Option<()>
+    requires { IsColumn (length problem.now.rows.now) column.now }
+    ensures grows { wides.old ≤ wides.new }
+    ensures wide { IfNone result (Rose wides.old wides.new) }
+{
+    for (place, cells) in direction.iter_mut().zip(working) {
+        *place = combined(
+            Frac::whole(0),
+            cells.as_slice(),
+            problem.rows,
+            column,
+            wides,
+        )?;
+    }
+    Some(())
+}
+
+/// Writes unit columns and right sides into rows of zeros, and makes the first basis of slacks and artificial variables.
+fn put_units(
+    working: &mut [Vec<Frac>],
+    basics: &mut Vec<Basic>,
+    problem: &Problem<'_>,
+) -> Result<(), AllocError> {
+    basics.clear();
+    for (i, cells) in working.iter_mut().enumerate() {
+        if i < problem.rows.len() {
+            let (sense, right) = problem.rows[i];
+            put(cells, i, Frac::whole(1));
+            put(cells, problem.rows.len(), turned(right, right < 0));
+            basics.push(first_basic(sense, right, i))?;
+        }
+    }
+    Ok(())
+}
+
+/// What is basic in a row at the start: its slack where that isn't below 0.
+fn first_basic(sense: Sense, right: i64, row: usize) -> Basic {
+    if sense == Sense::AtMost && right >= 0 && row <= 65535 {
+        return Basic::Slack(row as u16);
+    }
+    Basic::Artificial
+}
+
+impl Basis {
+    /// The basis of no working rows.
+    pub(crate) fn new(alloc: Global) -> Basis {
+        Basis {
+            basics: Vec::new(alloc),
+            reduced: Vec::new(alloc),
+            aim: Aim::Meet,
+            direction: Vec::new(alloc),
+            taken: Vec::new(alloc),
+            scaled: Vec::new(alloc),
+            idle: 0,
+            prefers: false,
+            stands: false,
+        }
+    }
+
+    /// Says whether the working rows stand as an answer left them.
+    pub(crate) fn set_standing(&mut self, stands: bool) {
+        self.stands = stands;
+    }
+
+    /// Makes the working rows anew from the rows given. None comes only where a fraction left its range.
+    fn start(
+        &mut self,
+        problem: &Problem<'_>,
+        working: &mut [Vec<Frac>],
+        wides: &mut Wides,
+    ) -> Result<Option<()>, AllocError>
+        ensures grows { wides.old ≤ wides.new }
+        ensures wide { IfOk result (λ done. IfNone done (Rose wides.old wides.new)) }
+    {
+        self.stands = false;
+        self.idle = 0;
+        let width = problem.rows.len().saturating_add(1);
+        self.reduced.clear();
+        self.reduced.resize(width, Frac::whole(0))?;
+        self.direction.clear();
+        self.direction.resize(width, Frac::whole(0))?;
+        self.scaled.clear();
+        self.scaled.resize(problem.rows.len(), 0)?;
+        clear_rows(working, width)?;
+        put_units(working, &mut self.basics, problem)?;
+        Ok(self.aim_at(Aim::Meet, problem, working, wides))
+    }
+
+    /// Makes the working rows anew, with nothing preferred. None comes only where a fraction left its range.
+    pub(crate) fn restart(
+        &mut self,
+        problem: &Problem<'_>,
+        working: &mut [Vec<Frac>],
+        wides: &mut Wides,
+    ) -> Result<Option<()>, AllocError>
+        ensures grows { wides.old ≤ wides.new }
+        ensures wide { IfOk result (λ done. IfNone done (Rose wides.old wides.new)) }
+    {
+        self.prefers = false;
+        self.start(problem, working, wides)
+    }
+
+    /// Goes on from the basis of the answer before where the working rows still stand so, else makes them anew, and preferred
+    /// columns will enter first. None comes only where a fraction left its range.
+    pub(crate) fn begin(
+        &mut self,
+        problem: &Problem<'_>,
+        working: &mut [Vec<Frac>],
+        wides: &mut Wides,
+    ) -> Result<Option<()>, AllocError>
+        ensures grows { wides.old ≤ wides.new }
+        ensures wide { IfOk result (λ done. IfNone done (Rose wides.old wides.new)) }
+    {
+        self.prefers = !self.stands;
+        if !self.stands {
+            return self.start(problem, working, wides);
+        }
+        self.stands = false;
+        self.idle = 0;
+        if self.aim == Aim::Meet {
+            return Ok(Some(()));
+        }
+        Ok(self.aim_at(Aim::Meet, problem, working, wides))
+    }
+
+    /// Makes the reduced costs those of an aim. None comes only where a fraction left its range.
+    fn aim_at(
+        &mut self,
+        aim: Aim,
+        problem: &Problem<'_>,
+        working: &[Vec<Frac>],
+        wides: &mut Wides,
+    ) -> Option<()>
+        ensures grows { wides.old ≤ wides.new }
+        ensures wide { IfNone result (Rose wides.old wides.new) }
+    {
+        self.aim = aim;
+        clear_cells(&mut self.reduced);
+        take_weights(
+            &mut self.reduced,
+            working,
+            &self.basics,
+            aim,
+            problem.costs,
+            wides,
+        )
+    }
+
+    /// What enters, if something does.
+    fn choose(&mut self, problem: &Problem<'_>, wides: &mut Wides) -> Choice
+        ensures grows { wides.old ≤ wides.new }
+        ensures wide { result ≡ Choice.Wide → Rose wides.old wides.new }
+    {
+        let count = self.scaled.len();
+        if self.reduced.len() < count {
+            return Choice::Nothing;
+        }
+        let Some(denominator) = scale_all(&self.reduced[..count], wides, &mut self.scaled) else {
+            return Choice::Wide;
+        };
+        turn_back(&mut self.scaled, problem.rows);
+        let pricing = Pricing {
+            scaled: &self.scaled,
+            costs: if self.aim == Aim::Lessen {
+                problem.costs
+            } else {
+                &[]
+            },
+            denominator,
+        };
+        let preferred = if self.prefers { problem.likely } else { &[] };
+        let first = self.idle >= count.saturating_mul(4).saturating_add(IDLE);
+        match choose_entering(&pricing, problem, preferred, first) {
+            Some(basic) => Choice::Enters(basic),
+            None => Choice::Nothing,
+        }
+    }
+
+    /// Writes the cells of a column, and its reduced cost. None comes only where a fraction left its range.
+    fn direct_along(
+        &mut self,
+        problem: &Problem<'_>,
+        working: &[Vec<Frac>],
+        column: &[(u16, i64)],
+        cost: i64,
+        wides: &mut Wides,
+    ) -> Option<()>
+        requires column { IsColumn (length problem.now.rows.now) column.now }
+        requires cost { IsSmall cost }
+        ensures grows { wides.old ≤ wides.new }
+        ensures wide { IfNone result (Rose wides.old wides.new) }
+    {
+        fill_direction(&mut self.direction, working, problem, column, wides)?;
+        let own = turned(cost, false);
+        let reduced = combined(own, &self.reduced, problem.rows, column, wides)?;
+        if let Some(last) = self.direction.last_mut() {
+            *last = reduced;
+        }
+        Some(())
+    }
+
+    /// The same for what enters.
+    fn direct(
+        &mut self,
+        problem: &Problem<'_>,
+        working: &[Vec<Frac>],
+        enters: Basic,
+        wides: &mut Wides,
+    ) -> Option<()>
+        ensures grows { wides.old ≤ wides.new }
+        ensures wide { IfNone result (Rose wides.old wides.new) }
+    {
+        match enters {
+            Basic::Column(place) if place < problem.columns.len() => {
+                let cost = weight_of(enters, self.aim, problem.costs);
+                let column = problem.columns[place].as_slice();
+                self.direct_along(problem, working, column, cost, wides)
+            }
+            Basic::Slack(row) if (row as usize) < problem.rows.len() => {
+                self.direct_along(problem, working, &[(row, 1)], 0, wides)
+            }
+            _ => Some(()),
+        }
+    }
+
+    /// Makes a unit column of the entering column by the row that was taken out. None comes only where a fraction left its
+    /// range.
+    fn eliminate(&mut self, working: &mut [Vec<Frac>], row: usize, wides: &mut Wides) -> Option<()>
+        ensures grows { wides.old ≤ wides.new }
+        ensures wide { IfNone result (Rose wides.old wides.new) }
+    {
+        let pivot = cell_at(&self.direction, row);
+        divide_row(&mut self.taken, &pivot, wides)?;
+        clear_column(working, &self.taken, &self.direction, wides)?;
+        let cost = right_side(&self.direction);
+        if cost.num() == 0 {
+            return Some(());
+        }
+        subtract_multiple(&mut self.reduced, &self.taken, &cost, wides)
+    }
+
+    /// Exchanges a working row with the row that was taken out.
+    fn exchange(&mut self, working: &mut [Vec<Frac>], row: usize) {
+        if row < working.len() {
+            mem::swap(&mut working[row], &mut self.taken);
+        }
+    }
+
+    /// Lets what enters take the place of what is basic in a row. None comes only where a fraction left its range.
+    fn pivot(
+        &mut self,
+        working: &mut [Vec<Frac>],
+        row: usize,
+        enters: Basic,
+        wides: &mut Wides,
+    ) -> Option<()>
+        ensures grows { wides.old ≤ wides.new }
+        ensures wide { IfNone result (Rose wides.old wides.new) }
+    {
+        self.exchange(working, row);
+        let done = self.eliminate(working, row, wides);
+        self.exchange(working, row);
+        if row < self.basics.len() {
+            self.basics[row] = enters;
+        }
+        done
+    }
+
+    /// One pivot with what enters.
+    fn enter(
+        &mut self,
+        problem: &Problem<'_>,
+        working: &mut [Vec<Frac>],
+        enters: Basic,
+        wides: &mut Wides,
+    ) -> Step
+        ensures grows { wides.old ≤ wides.new }
+        ensures wide { result ≡ Step.Wide → Rose wides.old wides.new }
+    {
+        if self.direct(problem, working, enters, wides).is_none() {
+            return Step::Wide;
+        }
+        let pinned = self.aim == Aim::Lessen;
+        match leaving_row(working, &self.basics, &self.direction, pinned, wides) {
+            Leaving::Row(leaver) => {
+                self.idle = if leaver.ratio.num() == 0 {
+                    self.idle.saturating_add(1)
+                } else {
+                    0
+                };
+                match self.pivot(working, leaver.row, enters, wides) {
+                    Some(()) => Step::Moved,
+                    None => Step::Wide,
+                }
+            }
+            Leaving::Wide => Step::Wide,
+            Leaving::Unbounded => Step::Lost,
+        }
+    }
+
+    /// One step toward the goal: a pivot, or what the basis shows where none is left to make.
+    pub(crate) fn step(
+        &mut self,
+        problem: &Problem<'_>,
+        working: &mut [Vec<Frac>],
+        wides: &mut Wides,
+    ) -> Step
+        ensures grows { wides.old ≤ wides.new }
+        ensures wide { result ≡ Step.Wide → Rose wides.old wides.new }
+    {
+        if self.aim == Aim::Meet && right_side(&self.reduced).num() == 0 {
+            if problem.goal == Aim::Meet {
+                return Step::Meets;
+            }
+            if self.aim_at(Aim::Lessen, problem, working, wides).is_none() {
+                return Step::Wide;
+            }
+        }
+        match self.choose(problem, wides) {
+            Choice::Enters(enters) => self.enter(problem, working, enters, wides),
+            Choice::Wide => Step::Wide,
+            Choice::Nothing if self.aim == Aim::Lessen => Step::Least,
+            Choice::Nothing => Step::Refutes,
+        }
+    }
+
+    /// Writes the columns below `count` that are basic into the list, as far as its room goes.
+    pub(crate) fn note(&self, count: usize, list: &mut Vec<usize>)
+        ensures { All (λ j. j < count) list.new.items }
+    {
+        list.clear();
+        for basic in &self.basics {
+            if let Basic::Column(place) = basic {
+                add_likely(list, *place, count);
+            }
+        }
+    }
+}
