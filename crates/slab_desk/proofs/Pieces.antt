@@ -1,7 +1,9 @@
 -- A text that goes out piece by piece, and a file that comes in piece by piece.
-use Rattle.std.proofs.Common.{◌≡◌, ℕ, ◌<◌, List, [], ◌∷◌, ◌++◌, length, take, drop, Option, Some, sym, ap, ◌∙◌, subst, append_assoc, append-nil, arith}
-use Rattle.std.proofs.lemmas.List.{take-append-drop}
+use Rattle.std.proofs.Common.{◌≡◌, ℕ, ◌<◌, ◌≤◌, Bool, false, Ok, List, [], ◌∷◌, ◌++◌, length, take, drop, Option, Some, sym, ap, ◌∙◌, subst, append_assoc, append-nil, arith}
+use Rattle.std.proofs.lemmas.List.{take-append-drop, length-drop}
 use Rattle.std.specs.FinMap.{get, insert}
+use Rattle.slab_desk.specs.Causes.{is_stopped_after}
+use Rattle.slab_desk.specs.declared.desk.Failed.{Failed}
 use Rattle.slab_desk.specs.Desk.{Told, Files, Steps, Says, Appends, AppendsAll, Opens, Reads, HasRead}
 use Rattle.slab_desk.proofs.Files.{get-insert_same, insert-insert_same}
 use Rattle.slab_desk.proofs.Steps.{steps_join}
@@ -70,3 +72,20 @@ read_more name bytes buffer k x y z p q = record {
   file = p.file ∙ ap (λ (l : List ℕ). Some (bytes ++ l)) q.bytes ∙ ap (λ (l : List ℕ). Some l) (sym (append_assoc bytes (take k buffer) z.left));
   others = q.others ∙ ap (λ (t : Told). record t { left = z.left }) p.others;
 }
+
+-- whether the last call failed, with this rest of the bytes to go: none was made before the first of them went
+pub record IsStoppedWith (bytes rest : List ℕ) (before now : Bool) : Type 0 where
+  pub fewer : length rest ≤ length bytes
+  pub untouched : length rest ≡ length bytes → now ≡ before
+  pub begun : length rest < length bytes → now ≡ false
+
+pub stopped_more : (k : ℕ) (bytes rest : List ℕ) (before now next : Bool) → 0 < k → k ≤ length rest → next ≡ false → IsStoppedWith bytes rest before now → IsStoppedWith bytes (drop k rest) before next
+stopped_more k bytes rest before now next some bound answered h = record {
+  fewer = omega (arith, length-drop k rest, h.fewer);
+  untouched = λ e. absurd (omega (arith, e, length-drop k rest, h.fewer, some, bound));
+  begun = λ _. answered;
+}
+
+pub stopped_at_end : (bytes rest : List ℕ) (before now : Bool) → length rest ≡ 0 → IsStoppedWith bytes rest before now → now ≡ is_stopped_after {E = Failed} before bytes (Ok (tt {0}))
+stopped_at_end [] rest before now e h = h.untouched e
+stopped_at_end (byte ∷ bytes) rest before now e h = h.begun (omega (arith, e))

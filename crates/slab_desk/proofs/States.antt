@@ -17,17 +17,17 @@ use Rattle.slab_desk.specs.declared.mem_desk.MemDesk.TheInside.{Inside}
 use Rattle.slab_desk.proofs.ByName.{insert_at, insert_new, target_at, target_kept, target_last, found_at}
 
 pub opened_state : (d : Inside) (left : Reserve) (calls : Calls) (bytes : List ℕ) → left.bytes ≡ bytes → calls ≡ with_call OpenFile d.calls
-    → state_of (record d { left = left; at = 0; calls = calls }) ≡ after_answer OpenFile (record (state_of d).told { left = bytes }) (state_of d)
+    → state_of (record d { left = left; at = 0; calls = calls; stopped = false }) ≡ after_answer OpenFile (record (state_of d).told { left = bytes }) (state_of d)
 opened_state d left calls bytes same counted =
-    ap (λ (b : List ℕ). record (state_of d) { told = record (state_of d).told { left = b }; calls = calls }) same
-    ∙ ap (λ (n : Calls). record (state_of d) { told = record (state_of d).told { left = bytes }; calls = n }) counted
+    ap (λ (b : List ℕ). record (state_of d) { told = record (state_of d).told { left = b }; calls = calls; stopped = false }) same
+    ∙ ap (λ (n : Calls). record (state_of d) { told = record (state_of d).told { left = bytes }; calls = n; stopped = false }) counted
 
 pub empty_of : (xs : List ℕ) → length xs ≡ 0 → xs ≡ []
 empty_of [] h = refl
 empty_of (x ∷ xs) h = absurd (omega arith)
 
 pub reads_state : (d : Inside) (k : ℕ) (calls : Calls) (buffer : List ℕ) → take k buffer ≡ take k (drop d.at d.left.bytes) → (k ≡ 0 → 0 < length buffer → drop d.at d.left.bytes ≡ [])
-    → Reads k buffer (state_of d).told (state_of (record d { at = d.at + k; calls = calls })).told
+    → Reads k buffer (state_of d).told (state_of (record d { at = d.at + k; calls = calls; stopped = false })).told
 reads_state d k calls buffer is none = record {
   bytes = sym (take-append-drop k (drop d.at d.left.bytes))
       ∙ ap (λ (front : List ℕ). front ++ drop k (drop d.at d.left.bytes)) (sym is)
@@ -47,9 +47,9 @@ or_none false o e = ap (λ (p : Option (List ℕ)). is_none p) (sym e)
 -- the file at a place was made empty, and is the target
 pub emptied_state : (d : Inside) (files : Vec MemFile Global) (name : List ℕ) (i : ℕ) (file : MemFile) (calls : Calls)
     → files.items ≡ set d.files.items i file → IsFirst d.files.items name i → IsNamed name file → file.bytes.bytes ≡ [] → calls ≡ with_call Create d.calls
-    → state_of (record d { files = files; target = Some i; calls = calls }) ≡ after_create name (state_of d)
+    → state_of (record d { files = files; target = Some i; calls = calls; stopped = false }) ≡ after_create name (state_of d)
 emptied_state d files name i file calls items first is empty counted =
-    let s : DeskState = state_of d in
+    let s : DeskState = record (state_of d) { stopped = false } in
     let t : Told = s.told in
     ap (λ (fs : List MemFile). record s { told = record t { files = files_of fs; target = target_name fs (Some i) }; calls = calls }) items
     ∙ ap (λ (o : Option (List ℕ)). record s { told = record t { files = files_of (set d.files.items i file); target = o }; calls = calls }) (target_at d.files.items name i file first.within is)
@@ -61,9 +61,9 @@ emptied_state d files name i file calls items first is empty counted =
 -- the spare file was given this name, and is the last file and the target
 pub made_state : (d : Inside) (files : Vec MemFile Global) (spare : Option MemFile) (name : List ℕ) (file : MemFile) (calls : Calls)
     → files.items ≡ d.files.items ++ file ∷ [] → spare ≡ None → get (files_of d.files.items) name ≡ None → IsNamed name file → file.bytes.bytes ≡ [] → calls ≡ with_call Create d.calls
-    → state_of (record d { files = files; spare = spare; target = Some (length d.files.items); calls = calls }) ≡ after_create name (state_of d)
+    → state_of (record d { files = files; spare = spare; target = Some (length d.files.items); calls = calls; stopped = false }) ≡ after_create name (state_of d)
 made_state d files spare name file calls items gone none is empty counted =
-    let s : DeskState = state_of d in
+    let s : DeskState = record (state_of d) { stopped = false } in
     let t : Told = s.told in
     let last : Option ℕ = Some (length d.files.items) in
     ap (λ (o : Option MemFile). record s { told = record t { files = files_of files.items; target = target_name files.items last }; calls = calls; made = is_none o }) gone
@@ -82,9 +82,9 @@ target_stays files name i file (Some place) first is = target_kept files name i 
 -- these bytes were appended to the file at a place
 pub wrote_state : (d : Inside) (files : Vec MemFile Global) (name : List ℕ) (i : ℕ) (file : MemFile) (content more : List ℕ) (calls : Calls)
     → files.items ≡ set d.files.items i file → IsFirst d.files.items name i → IsNamed name file → file.bytes.bytes ≡ content ++ more → calls ≡ with_call Write d.calls
-    → state_of (record d { files = files; calls = calls }) ≡ after_answer Write (record (state_of d).told { files = insert (state_of d).told.files name (content ++ more) }) (state_of d)
+    → state_of (record d { files = files; calls = calls; stopped = false }) ≡ after_answer Write (record (state_of d).told { files = insert (state_of d).told.files name (content ++ more) }) (state_of d)
 wrote_state d files name i file content more calls items first is bytes counted =
-    let s : DeskState = state_of d in
+    let s : DeskState = record (state_of d) { stopped = false } in
     let t : Told = s.told in
     ap (λ (fs : List MemFile). record s { told = record t { files = files_of fs; target = target_name fs d.target }; calls = calls }) items
     ∙ ap (λ (o : Option (List ℕ)). record s { told = record t { files = files_of (set d.files.items i file); target = o }; calls = calls }) (target_stays d.files.items name i file d.target first is)

@@ -14,6 +14,7 @@ state_of d = record {
   made = is_none d.spare;
   calls = d.calls;
   faults = d.faults;
+  stopped = d.stopped;
 }
 
 -- memory was taken for each file, for one more, for what is left and for what is said

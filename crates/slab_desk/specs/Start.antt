@@ -26,4 +26,5 @@ first_state files piece failing room = record {
   made = false;
   calls = record { opens = 0; reads = 0; creates = 0; writes = 0; says = 0 };
   faults = 0;
+  stopped = false;
 }

@@ -1,5 +1,5 @@
 -- A desk in memory, as contracts see it: before a call, after one that was answered, and after one that failed.
-use Rattle.std.specs.Prelude.{◌≡◌, ℕ, ◌-◌, ◌<◌, ◌≤◌, ◌⊎◌, ◌||◌, ◌++◌, min, Bool, List, [], Some, None, is_none, length, take, drop, Contains, IsTrue}
+use Rattle.std.specs.Prelude.{◌≡◌, ℕ, ◌-◌, ◌<◌, ◌≤◌, ◌⊎◌, ◌||◌, ◌++◌, min, Bool, true, false, List, [], Some, None, is_none, length, take, drop, Contains, IsTrue}
 use Rattle.std.specs.FinMap.{get, insert}
 use Rattle.slab_counter.specs.Counter.{next_count}
 use Rattle.slab_desk.specs.Calls.{count_of, with_call}
@@ -20,6 +20,8 @@ pub record DeskState : Type 0 where
   pub made : Bool
   pub calls : Calls
   pub faults : ℕ
+  -- the last call failed
+  pub stopped : Bool
 
 -- the next call of this kind is in the table of those that fail
 abbrev pub IsToFail : Act → DeskState → Type 0
@@ -27,11 +29,11 @@ IsToFail act desk = Contains desk.failing (act, next_count (count_of act desk.ca
 
 -- the desk after a call that failed
 abbrev pub after_fault : Act → DeskState → DeskState
-after_fault act desk = record desk { calls = with_call act desk.calls; faults = next_count desk.faults }
+after_fault act desk = record desk { calls = with_call act desk.calls; faults = next_count desk.faults; stopped = true }
 
 -- the desk after a call that was answered, and left it telling this
 abbrev pub after_answer : Act → Told → DeskState → DeskState
-after_answer act told desk = record desk { told = told; calls = with_call act desk.calls }
+after_answer act told desk = record desk { told = told; calls = with_call act desk.calls; stopped = false }
 
 pub record AfterOpen (name : List ℕ) (old new : DeskState) : Type 0 where
   pub bytes : List ℕ
@@ -75,3 +77,8 @@ pub record AfterWrite (bytes : List ℕ) (k : ℕ) (old new : DeskState) : Type 
 
 abbrev pub after_say : List ℕ → DeskState → DeskState
 after_say bytes desk = after_answer Say (record desk.told { said = desk.told.said ++ bytes }) desk
+
+-- a desk that tells nothing else
+pub record FaultState : Type 0 where
+  pub faults : ℕ
+  pub stopped : Bool

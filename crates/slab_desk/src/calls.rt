@@ -31,6 +31,19 @@ pub struct Calls {
 }
 
 impl Calls {
+    // How many calls of this kind there were.
+    pub fn of(&self, act: Act) -> u64
+        ensures { result ≡ count_of act self.now }
+    {
+        match act {
+            Act::OpenFile => self.opens,
+            Act::Read => self.reads,
+            Act::Create => self.creates,
+            Act::Write => self.writes,
+            Act::Say => self.says,
+        }
+    }
+
     // Counts one more call of this kind, and gives its number.
     pub fn count(&mut self, act: Act) -> u64
         ensures counted { self.new ≡ with_call act self.old }

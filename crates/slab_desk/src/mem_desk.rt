@@ -1,7 +1,9 @@
 // A desk in memory, which fails where it is told to.
-ghost use Rattle.std.specs.Prelude.{◌≡◌, ◌≢◌, ◌⊎◌, ◌<◌, ◌≤◌, ◌↔◌, ◌-◌, ◌++◌, length, take, drop, None, Some, IsErr, IfOk, OnOk, OnErr, All, AllPairs, MatchOption, vec_len};
+ghost use Rattle.std.specs.Prelude.{◌≡◌, ◌≢◌, ◌⊎◌, ◌<◌, ◌≤◌, ◌↔◌, ◌-◌, ◌++◌, length, min, take, drop, None, Some, IsErr, IfOk, OnOk, OnErr, All, AllPairs, MatchOption, vec_len};
 ghost use Rattle.std.specs.FinMap.{get};
+ghost use Rattle.std.specs.Result.{is_err};
 ghost use Rattle.std.specs.Vec.{vec_capacity};
+ghost use Rattle.slab_desk.specs.Calls.{count_of};
 ghost use Rattle.slab_desk.specs.Causes.{HasCause};
 ghost use Rattle.slab_desk.specs.Desk.{Answers, Opens, Reads, Creates, Appends, Says, HasFile};
 ghost use Rattle.slab_desk.specs.MemFile.{entries, HasRoom};
@@ -29,6 +31,7 @@ pub struct MemDesk {
     room: usize,
     calls: Calls,
     faults: u64,
+    stopped: bool,
 }
 
 impl Model for MemDesk {
@@ -90,6 +93,7 @@ impl MemDesk {
                 says: 0,
             },
             faults: 0,
+            stopped: false,
         })
     }
 
@@ -115,6 +119,20 @@ impl MemDesk {
         ensures { result ≡ self.now.faults }
     {
         self.faults
+    }
+
+    /// Whether the last call failed; false where there was none.
+    pub fn stopped(&self) -> bool
+        ensures { result ≡ self.now.stopped }
+    {
+        self.stopped
+    }
+
+    /// How many calls of a kind there were. It stays at 2^32 - 1.
+    pub fn calls(&self, act: Act) -> u32
+        ensures { result ≡ min (count_of act self.now.calls) u32.MAX }
+    {
+        self.calls.of(act).min(u64::from(u32::MAX)) as u32
     }
 }
 
@@ -143,14 +161,18 @@ impl Desk for MemDesk {
 
     ghost faults = { λ desk. desk.faults };
 
+    ghost stopped = { λ desk. desk.stopped };
+
     fn open_file(&mut self, name: &str) -> Result<(), Failed>
         ensures opens { Answers result (Some self.old.told) (Some self.new.told) (λ _. Opens name.now) }
         ensures cause { HasCause self.old.faults self.new.faults result }
+        ensures stopped { self.new.stopped ≡ is_err result }
 
         ensures exact { IsErr result ↔ (IsToFail Act.OpenFile self.old ⊎ (get self.old.told.files name.now ≡ None)) }
         ensures ok { OnOk result (AfterOpen name.now self.old self.new) }
         ensures err { OnErr result (self.new ≡ after_fault Act.OpenFile self.old) }
     {
+        self.stopped = false;
         let number = self.calls.count(Act::OpenFile);
         if !fails(&self.failing, Act::OpenFile, number) {
             if let Some(place) = position(&self.files, name) {
@@ -160,13 +182,14 @@ impl Desk for MemDesk {
                 return Ok(());
             }
         }
-        Err(fault(&mut self.faults))
+        Err(fault(&mut self.faults, &mut self.stopped))
     }
 
     fn read(&mut self, buf: &mut [u8]) -> Result<usize, Failed>
         ensures bound { IfOk result (λ k. k ≤ length buf.new) }
         ensures reads { Answers result (Some self.old.told) (Some self.new.told) (λ k. Reads k buf.new) }
         ensures cause { HasCause self.old.faults self.new.faults result }
+        ensures stopped { self.new.stopped ≡ is_err result }
 
         ensures exact { IsErr result ↔ IsToFail Act.Read self.old }
         ensures count { IfOk result (λ k. k ≡ moved self.old (length self.old.told.left) (length buf.old)) }
@@ -175,9 +198,10 @@ impl Desk for MemDesk {
         ensures err { OnErr result (self.new ≡ after_fault Act.Read self.old) }
         ensures kept { OnErr result (buf.new ≡ buf.old) }
     {
+        self.stopped = false;
         let number = self.calls.count(Act::Read);
         if fails(&self.failing, Act::Read, number) {
-            return Err(fault(&mut self.faults));
+            return Err(fault(&mut self.faults, &mut self.stopped));
         }
         let rest = &self.left.bytes()[self.at..];
         let count = self.piece.min(buf.len().min(rest.len()));
@@ -189,11 +213,13 @@ impl Desk for MemDesk {
     fn create_file(&mut self, name: &str) -> Result<(), Failed>
         ensures creates { Answers result (Some self.old.told) (Some self.new.told) (λ _. Creates name.now) }
         ensures cause { HasCause self.old.faults self.new.faults result }
+        ensures stopped { self.new.stopped ≡ is_err result }
 
         ensures exact { IsErr result ↔ (IsToFail Act.Create self.old ⊎ CannotMake name.now self.old) }
         ensures ok { OnOk result (self.new ≡ after_create name.now self.old) }
         ensures err { OnErr result (self.new ≡ after_fault Act.Create self.old) }
     {
+        self.stopped = false;
         let number = self.calls.count(Act::Create);
         if !fails(&self.failing, Act::Create, number) {
             if let Some(place) = position(&self.files, name) {
@@ -210,7 +236,7 @@ impl Desk for MemDesk {
                 }
             }
         }
-        Err(fault(&mut self.faults))
+        Err(fault(&mut self.faults, &mut self.stopped))
     }
 
     fn write(&mut self, bytes: &[u8]) -> Result<usize, Failed>
@@ -218,11 +244,13 @@ impl Desk for MemDesk {
         ensures some { IfOk result (λ k. 0 < length bytes.now → 0 < k) }
         ensures writes { Answers result (Some self.old.told) (Some self.new.told) (λ k. Appends (take k bytes.now)) }
         ensures cause { HasCause self.old.faults self.new.faults result }
+        ensures stopped { self.new.stopped ≡ is_err result }
 
         ensures exact { IsErr result ↔ (IsToFail Act.Write self.old ⊎ (self.old.told.target ≡ None) ⊎ TargetIsFullFor bytes.now self.old) }
         ensures ok { IfOk result (λ k. AfterWrite bytes.now k self.old self.new) }
         ensures err { OnErr result (self.new ≡ after_fault Act.Write self.old) }
     {
+        self.stopped = false;
         let number = self.calls.count(Act::Write);
         if !fails(&self.failing, Act::Write, number) {
             if let Some(place) = target_place(&self.files, self.target) {
@@ -232,7 +260,7 @@ impl Desk for MemDesk {
                 }
             }
         }
-        Err(fault(&mut self.faults))
+        Err(fault(&mut self.faults, &mut self.stopped))
     }
 
     fn say(&mut self, bytes: &[u8]) -> Result<usize, Failed>
@@ -240,12 +268,14 @@ impl Desk for MemDesk {
         ensures some { IfOk result (λ k. 0 < length bytes.now → 0 < k) }
         ensures says { Answers result (Some self.old.told) (Some self.new.told) (λ k. Says (take k bytes.now)) }
         ensures cause { HasCause self.old.faults self.new.faults result }
+        ensures stopped { self.new.stopped ≡ is_err result }
 
         ensures exact { IsErr result ↔ (IsToFail Act.Say self.old ⊎ IsFullFor bytes.now self.old.told.said self.old) }
         ensures count { IfOk result (λ k. k ≡ moved self.old (self.old.room - length self.old.told.said) (length bytes.now)) }
         ensures ok { IfOk result (λ k. self.new ≡ after_say (take k bytes.now) self.old) }
         ensures err { OnErr result (self.new ≡ after_fault Act.Say self.old) }
     {
+        self.stopped = false;
         let number = self.calls.count(Act::Say);
         if !fails(&self.failing, Act::Say, number) {
             if let Some(count) = self.said.movable(bytes.len(), self.piece) {
@@ -253,6 +283,6 @@ impl Desk for MemDesk {
                 return Ok(count);
             }
         }
-        Err(fault(&mut self.faults))
+        Err(fault(&mut self.faults, &mut self.stopped))
     }
 }

@@ -1,5 +1,5 @@
 // Files and standard output as the system has them.
-ghost use Rattle.std.specs.Prelude.{◌≡◌, None};
+ghost use Rattle.std.specs.Prelude.{◌≡◌, None, false};
 
 use crate::desk::fault;
 use crate::{Desk, Failed};
@@ -8,33 +8,36 @@ use std::io::{self, Read, Write};
 use std::marker::Model;
 use std::rt::Files;
 
-/// A thin adapter over the files and the standard output of a runtime. It tells nothing but its faults.
+/// A thin adapter over the files and the standard output of a runtime. It tells nothing but its faults
+/// and whether the last call failed.
 #[derive(Drop)]
 pub struct RealDesk<R: Files + Print + Drop> {
     rt: R,
     opened: Option<R::File>,
     target: Option<R::File>,
     faults: u64,
+    stopped: bool,
 }
 
 impl<R: Files + Print + Drop> Model for RealDesk<R> {
-    ghost use Rattle.std.specs.Prelude.{ℕ};
+    ghost use Rattle.slab_desk.specs.State.{FaultState};
 
-    ghost Value = { ℕ };
+    ghost Value = { FaultState };
 
-    ghost view = { λ desk. desk.faults };
+    ghost view = { λ desk. record { faults = desk.faults; stopped = desk.stopped } };
 }
 
 impl<R: Files + Print + Drop> RealDesk<R> {
     /// A desk with no file opened or created, and no fault yet.
     pub fn new(rt: R) -> Self
-        ensures { result ≡ 0 }
+        ensures { result ≡ record { faults = 0; stopped = false } }
     {
         RealDesk {
             rt,
             opened: None,
             target: None,
             faults: 0,
+            stopped: false,
         }
     }
 }
@@ -42,49 +45,56 @@ impl<R: Files + Print + Drop> RealDesk<R> {
 impl<R: Files + Print + Drop> Desk for RealDesk<R> {
     ghost told = { λ _. None };
 
-    ghost faults = { λ faults. faults };
+    ghost faults = { λ desk. desk.faults };
+
+    ghost stopped = { λ desk. desk.stopped };
 
     fn open_file(&mut self, name: &str) -> Result<(), Failed> {
+        self.stopped = false;
         match fs::open(&self.rt, name) {
             Ok(file) => {
                 self.opened = Some(file);
                 Ok(())
             }
-            Err(_) => Err(fault(&mut self.faults)),
+            Err(_) => Err(fault(&mut self.faults, &mut self.stopped)),
         }
     }
 
     fn read(&mut self, buf: &mut [u8]) -> Result<usize, Failed> {
+        self.stopped = false;
         let Some(file) = &mut self.opened else {
             return Ok(0);
         };
         match file.read(buf) {
             Ok(count) => Ok(count),
-            Err(_) => Err(fault(&mut self.faults)),
+            Err(_) => Err(fault(&mut self.faults, &mut self.stopped)),
         }
     }
 
     fn create_file(&mut self, name: &str) -> Result<(), Failed> {
+        self.stopped = false;
         match fs::create(&self.rt, name) {
             Ok(file) => {
                 self.target = Some(file);
                 Ok(())
             }
-            Err(_) => Err(fault(&mut self.faults)),
+            Err(_) => Err(fault(&mut self.faults, &mut self.stopped)),
         }
     }
 
     fn write(&mut self, bytes: &[u8]) -> Result<usize, Failed> {
+        self.stopped = false;
         if let Some(file) = &mut self.target {
             match file.write(bytes) {
                 Ok(count) if count > 0 || bytes.is_empty() => return Ok(count),
                 _ => {}
             }
         }
-        Err(fault(&mut self.faults))
+        Err(fault(&mut self.faults, &mut self.stopped))
     }
 
     fn say(&mut self, bytes: &[u8]) -> Result<usize, Failed> {
+        self.stopped = false;
         let mut out = io::writer(&self.rt);
         match out.write(bytes) {
             Ok(count) if count > 0 || bytes.is_empty() => match out.flush() {
@@ -93,7 +103,7 @@ impl<R: Files + Print + Drop> Desk for RealDesk<R> {
             },
             _ => {}
         }
-        Err(fault(&mut self.faults))
+        Err(fault(&mut self.faults, &mut self.stopped))
     }
 }
 

@@ -51,7 +51,11 @@ fn a_file_past_the_limit_is_long(rt: HostRuntime) -> Result<(), Fail> {
         b"1 10".as_slice()
     );
     assert_eq!(rt; read_all(alloc, &mut desk, "yard", 0)?.len(), 0);
+    assert!(rt; !desk.stopped());
     assert!(rt; matches!(read_all(alloc, &mut desk, "plan", 4), Err(ReadFail::Fault)));
     assert_eq!(rt; desk.faults(), 1);
+    assert!(rt; desk.stopped());
+    assert_eq!(rt; desk.calls(Act::OpenFile), 4);
+    assert_eq!(rt; desk.calls(Act::Read), 6);
     Ok(())
 }

@@ -1,7 +1,7 @@
 // Whole files and whole texts, over a desk that moves some bytes at a time.
-ghost use Rattle.std.specs.Prelude.{◌≡◌, ◌≤◌, ◌+◌, [], length, IfOk, OnOk, OnErr, IsErrOf};
+ghost use Rattle.std.specs.Prelude.{◌≡◌, ◌≤◌, ◌+◌, false, [], length, IfOk, OnOk, OnErr, IsErrOf};
 ghost use Rattle.slab_counter.specs.Counter.{Rose};
-ghost use Rattle.slab_desk.specs.Causes.{HasCause};
+ghost use Rattle.slab_desk.specs.Causes.{HasCause, is_fault, is_stopped_after};
 ghost use Rattle.slab_desk.specs.Desk.{Steps, WhereTold, HasFile, HasLongFile, ChangesLeft, ReadsAtMost, Says, AppendsAll, WithPrefix};
 
 use crate::{Desk, Failed};
@@ -60,6 +60,8 @@ pub fn read_all<D: Desk>(
     ensures fits { IfOk result (λ v. length v.items ≤ limit) }
     ensures long { IsErrOf result ReadFail.Long → WhereTold (D.told desk.old) (HasLongFile name.now limit) }
     ensures fault { IsErrOf result ReadFail.Fault → Rose (D.faults desk.old) (D.faults desk.new) }
+    ensures kept { is_fault result ≡ false → D.faults desk.new ≡ D.faults desk.old }
+    ensures stopped { D.stopped desk.new ≡ is_fault result }
 
     // After each answer, `Memory` too, which is free.
     ensures read { Steps (D.told desk.old) (D.told desk.new) (ReadsAtMost name.now (limit + 1)) }
@@ -83,11 +85,12 @@ pub fn read_all<D: Desk>(
     }
 }
 
-/// Says all of the bytes, or a prefix of them where the outside fails. It takes no memory.
+/// Says all of the bytes, or a prefix of them where the outside fails. It takes no memory, and of no bytes makes no call.
 pub fn say_all<D: Desk>(desk: &mut D, bytes: &[u8]) -> Result<(), Failed>
     ensures all { OnOk result (Steps (D.told desk.old) (D.told desk.new) (Says bytes.now)) }
     ensures prefix { OnErr result (Steps (D.told desk.old) (D.told desk.new) (WithPrefix Says bytes.now)) }
     ensures cause { HasCause (D.faults desk.old) (D.faults desk.new) result }
+    ensures stopped { D.stopped desk.new ≡ is_stopped_after (D.stopped desk.old) bytes.now result }
 {
     let mut rest = bytes;
     while !rest.is_empty() {
@@ -103,6 +106,7 @@ pub fn write_all<D: Desk>(desk: &mut D, bytes: &[u8]) -> Result<(), Failed>
     ensures all { OnOk result (Steps (D.told desk.old) (D.told desk.new) (AppendsAll bytes.now)) }
     ensures prefix { OnErr result (Steps (D.told desk.old) (D.told desk.new) (WithPrefix AppendsAll bytes.now)) }
     ensures cause { HasCause (D.faults desk.old) (D.faults desk.new) result }
+    ensures stopped { D.stopped desk.new ≡ is_stopped_after (D.stopped desk.old) bytes.now result }
 {
     let mut rest = bytes;
     while !rest.is_empty() {

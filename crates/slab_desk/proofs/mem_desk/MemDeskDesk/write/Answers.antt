@@ -1,4 +1,4 @@
-use Rattle.std.proofs.Common.{◌≡◌, ℕ, ◌-◌, ◌<◌, ◌⊎◌, inl, inr, ◌↔◌, IsTrue, length, List, take, ap, subst, refl, None}
+use Rattle.std.proofs.Common.{◌≡◌, ℕ, ◌-◌, ◌<◌, ◌⊎◌, inl, inr, ◌↔◌, IsTrue, length, List, take, ap, subst, refl, None, false}
 use Rattle.std.specs.Vec.{with_item}
 use Rattle.slab_desk.specs.Memory.{state_of}
 use Rattle.slab_desk.specs.MemFile.{IsTarget, IsNamed, target_name}
@@ -22,7 +22,7 @@ returns-in-Some-movable-clause-ok c =
     let same : c.index.result.now ≡ old = same_read d.files.items place c.index.result.now old target.first.within c.index.ensures c.index_mut.ensures.value in
     let has_room : old.bytes.room ≡ d.room = room_at d.files.items d.room place old c.self.invariant.files target.first.within c.index_mut.ensures.value in
     let count : c.in-Some-movable.count ≡ moved (state_of d) (d.room - length old.bytes.bytes) (length c.args.bytes.now) = rw (← has_room, ← same) c.in-Some-movable.ensures.some in
-    let wrote : AfterWrite c.args.bytes.now c.in-Some-movable.count (state_of d) (state_of (record d { files = with_item d.files place file; calls = c.count-number.new.self })) = record {
+    let wrote : AfterWrite c.args.bytes.now c.in-Some-movable.count (state_of d) (state_of (record d { files = with_item d.files place file; calls = c.count-number.new.self; stopped = false })) = record {
       name = target.name;
       content = old.bytes.bytes;
       had = has_target d place old target c.index_mut.ensures.value;
