@@ -1,0 +1,6 @@
+use Rattle.std.proofs.Common.{reverse, take}
+use Rattle.mill_model.specs.Groups.{AreHeads}
+use Rattle.price_check.proofs.groups.join_all.Given as goal
+
+abbrev pub invariant-loop-ask : goal.invariant-loop-ask
+invariant-loop-ask l = AreHeads (reverse (take l.ask-index l.decisions)) l.heads

@@ -1,0 +1,13 @@
+pub mod Path
+pub mod Marks
+pub mod Numbers
+pub mod Rules
+pub mod Exceeding
+pub mod Groupings
+pub mod Parts
+pub mod Apartness
+pub mod Search
+pub mod Bounds
+pub mod Hunts
+pub mod Spaces
+pub mod Leaves

@@ -1,0 +1,56 @@
+//! Groups that decisions keep apart.
+ghost use Rattle.std.specs.Prelude.{◌≡◌, ◌*◌, ◌≤◌, List, true, false, length};
+ghost use Rattle.mill_model.specs.declared.ask.Ask.{Ask};
+ghost use Rattle.mill_model.specs.Columns.{Column};
+ghost use Rattle.mill_model.specs.Decisions.{Decision, agrees, column_agrees};
+ghost use Rattle.mill_model.specs.Groups.{AreHeads};
+ghost use Rattle.mill_model.specs.Groupings.{AreBefore};
+ghost use Rattle.price_check.specs.Apartness.{AreApart};
+
+use crate::trail::Trail;
+use mill_model::Ask;
+
+// Marks each two groups that a decision keeps apart.
+pub(crate) fn fill_apart(trail: &Trail, heads: &[u16], apart: &mut [bool])
+    requires heads { AreHeads trail.now.decisions heads.now }
+    requires few { length heads.now ≤ 250 }
+    requires size { length apart.old ≡ length heads.now * length heads.now }
+    ensures { AreApart trail.now.decisions (length heads.now) apart.new }
+{
+    apart.fill(false);
+    for (ask, answer) in trail.decisions() {
+        keep_apart(*ask, *answer, heads, apart);
+    }
+}
+
+// Marks the groups of two orders where a decision keeps them apart.
+fn keep_apart(ask: Ask, answer: bool, heads: &[u16], apart: &mut [bool])
+    requires before { AreBefore heads.now }
+    requires few { length heads.now ≤ 250 }
+    requires size { length apart.old ≡ length heads.now * length heads.now }
+    ensures size { length apart.new ≡ length apart.old }
+    ensures apart { (decisions : List Decision) → AreHeads decisions heads.now → ((c : Column) → column_agrees decisions c ≡ true → agrees c (ask, answer) ≡ true) → AreApart decisions (length heads.now) apart.old → AreApart decisions (length heads.now) apart.new }
+{
+    if let (Ask::Pair(i, j), false) = (ask, answer) {
+        mark_pair(i, j, heads, apart);
+    }
+}
+
+// Marks the groups of two orders, if there are such orders.
+fn mark_pair(i: u16, j: u16, heads: &[u16], apart: &mut [bool])
+    requires before { AreBefore heads.now }
+    requires few { length heads.now ≤ 250 }
+    requires size { length apart.old ≡ length heads.now * length heads.now }
+    ensures size { length apart.new ≡ length apart.old }
+    ensures apart { (decisions : List Decision) → AreHeads decisions heads.now → ((c : Column) → column_agrees decisions c ≡ true → agrees c (Ask.Pair i j, false) ≡ true) → AreApart decisions (length heads.now) apart.old → AreApart decisions (length heads.now) apart.new }
+{
+    let orders = heads.len();
+    let (i, j) = (usize::from(i), usize::from(j));
+    if i >= orders || j >= orders {
+        return;
+    }
+    let first = usize::from(heads[i]);
+    let second = usize::from(heads[j]);
+    apart[first * orders + second] = true;
+    apart[second * orders + first] = true;
+}

@@ -1,0 +1,12 @@
+pub mod Groupings
+pub mod Excesses
+pub mod Numbers
+pub mod Parts
+pub mod Gathering
+pub mod Sums
+pub mod Tables
+pub mod Colours
+pub mod Packs
+pub mod Walks
+pub mod Queues
+pub mod ColourPairs
