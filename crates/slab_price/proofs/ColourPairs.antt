@@ -6,15 +6,15 @@ use Rattle.std.proofs.lemmas.Int.{ints}
 use Rattle.mill_model.specs.Mill.{Mill, IsInLimits}
 use Rattle.mill_model.specs.SignedSums.{total_by}
 use Rattle.mill_model.specs.Columns.{Column, IsLegalColumn, Rises}
-use Rattle.mill_model.specs.Groups.{heads_in, members}
+use Rattle.pricing_laws.specs.Groups.{heads_in, members}
 use Rattle.mill_model.specs.Prices.{Prices}
 use Rattle.mill_model.specs.Decisions.{Decision, column_agrees}
-use Rattle.mill_model.proofs.Groups.{heads_in_rise, whole_groups}
+use Rattle.pricing_laws.proofs.Groups.{heads_in_rise, whole_groups}
 use Rattle.slab_price.specs.declared.frame.Frame.{Frame}
 use Rattle.slab_price.specs.Bounds.{IsOfColours, IsFrame, plus_of}
 use Rattle.slab_price.specs.Excess.{IsGreatest}
-use Rattle.mill_model.specs.Gains.{gains_of, cost_of}
-use Rattle.mill_model.specs.Groupings.{Groups, AreGroups, gain_at}
+use Rattle.pricing_laws.specs.Gains.{gains_of, cost_of}
+use Rattle.pricing_laws.specs.Groupings.{Groups, AreGroups, gain_at}
 use Rattle.slab_price.specs.Parts.{IsPart, left_of}
 use Rattle.slab_price.specs.Searches.{IsBestFrom, IsBestOn, IsBestOfPair}
 use Rattle.slab_price.proofs.Colours.{pair_of}

@@ -11,7 +11,7 @@ use Rattle.mill_model.specs.Columns.{Column, IsInStock, loss_of, load, order_at,
 use Rattle.mill_model.specs.Prices.{Prices, IsPriced, price_at, charge}
 use Rattle.mill_model.proofs.Signed.{mul_add, mul_le, total_by-add, total_by-pos, total_by-scale}
 use Rattle.slab_price.specs.Excess.{excess}
-use Rattle.mill_model.specs.Gains.{gains_of, cost_of}
+use Rattle.pricing_laws.specs.Gains.{gains_of, cost_of}
 
 -- a column is priced exactly where its excess is at most 0
 pub priced_from_excess : (m : Mill) (p : Prices) (c : Column) → excess m p c ≤ℤ pos 0 → IsPriced m p c

@@ -14,7 +14,7 @@ use Rattle.mill_model.specs.LeastSizes.{IsLeastSize}
 use Rattle.slab_price.specs.declared.best.Best.{Best}
 use Rattle.mill_model.specs.LeastSizes.{IsOfLeastSize}
 use Rattle.slab_price.specs.Excess.{excess, IsFound}
-use Rattle.mill_model.specs.Gains.{cost_of}
+use Rattle.pricing_laws.specs.Gains.{cost_of}
 use Rattle.slab_price.specs.Searches.{IsBest, IsBestOn, IsPack}
 use Rattle.slab_price.proofs.Excesses.{cost_rises, excess_split}
 

@@ -5,12 +5,12 @@ use Rattle.std.proofs.lemmas.Bool.{cond_both, eqb-true, or_left, or_right, eq-eq
 use Rattle.std.proofs.lemmas.List.{get_or_default}
 use Rattle.mill_model.specs.Mill.{Mill}
 use Rattle.mill_model.specs.Columns.{Column, Rises, has}
-use Rattle.mill_model.specs.Groups.{AreHeads, head_of, heads_in, members}
+use Rattle.pricing_laws.specs.Groups.{AreHeads, head_of, heads_in, members}
 use Rattle.mill_model.specs.Prices.{Prices}
 use Rattle.mill_model.specs.Decisions.{Decision, column_agrees}
-use Rattle.mill_model.proofs.Groups.{has-members, members_rise}
+use Rattle.pricing_laws.proofs.Groups.{has-members, members_rise}
 use Rattle.slab_price.specs.Bounds.{HasColour, HaveColours, IsOfColours, AreMarked, IsMarked, AreGathered, AreQueued, AreWeighed}
-use Rattle.mill_model.specs.Groupings.{Groups, AreGroups}
+use Rattle.pricing_laws.specs.Groupings.{Groups, AreGroups}
 use Rattle.slab_price.specs.Parts.{IsPart, left_of}
 use Rattle.slab_price.proofs.Colours.{has_all, two_colours_at_most}
 use Rattle.slab_price.proofs.Parts.{left_each, part_all}

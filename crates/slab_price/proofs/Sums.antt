@@ -9,7 +9,7 @@ use Rattle.mill_model.specs.Mill.{Mill}
 use Rattle.mill_model.specs.SignedSums.{total_by}
 use Rattle.mill_model.specs.Columns.{Rises, order_at}
 use Rattle.slab_price.specs.Bounds.{HasColour, HaveColours, plus_of, ArePlus}
-use Rattle.mill_model.specs.Groupings.{Groups, gain_at}
+use Rattle.pricing_laws.specs.Groupings.{Groups, gain_at}
 
 -- ---- by colours
 

@@ -13,10 +13,10 @@ use Rattle.std.proofs.Math.Seq.{get_or-append_seam}
 use Rattle.mill_model.specs.SignedSums.{total_by}
 use Rattle.mill_model.specs.Mill.{Mill}
 use Rattle.mill_model.specs.Columns.{size_of}
-use Rattle.mill_model.specs.Gains.{cost_of}
+use Rattle.pricing_laws.specs.Gains.{cost_of}
 use Rattle.mill_model.specs.Prices.{Prices}
 use Rattle.slab_price.specs.Bounds.{AreEnds, AreSteps, IsEnd, IsMost, IsTable}
-use Rattle.mill_model.specs.Groupings.{Groups, weight_at, gain_at}
+use Rattle.pricing_laws.specs.Groupings.{Groups, weight_at, gain_at}
 use Rattle.slab_price.specs.Parts.{IsPart, left_of}
 use Rattle.slab_price.proofs.Parts.{left_more}
 

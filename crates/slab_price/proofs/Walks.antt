@@ -11,16 +11,16 @@ use Rattle.mill_model.specs.declared.kind.Kind.{Kind}
 use Rattle.mill_model.specs.Mill.{Mill}
 use Rattle.mill_model.specs.SignedSums.{total_by}
 use Rattle.mill_model.specs.Columns.{IsLegalColumn, Rises, has, load}
-use Rattle.mill_model.specs.Groups.{head_of, members}
+use Rattle.pricing_laws.specs.Groups.{head_of, members}
 use Rattle.mill_model.specs.Prices.{Prices}
 use Rattle.mill_model.specs.Decisions.{Decision, column_agrees}
-use Rattle.mill_model.proofs.Groups.{has-members, members_rise}
+use Rattle.pricing_laws.proofs.Groups.{has-members, members_rise}
 use Rattle.mill_model.proofs.Judging.{has-append}
 use Rattle.mill_model.proofs.Signed.{total_by-append}
 use Rattle.slab_price.specs.Bounds.{AreEnds, AreQueued, IsMost}
 use Rattle.slab_price.specs.Excess.{excess}
-use Rattle.mill_model.specs.Gains.{gains_of, cost_of}
-use Rattle.mill_model.specs.Groupings.{Groups, AreGroups, weight_at, gain_at}
+use Rattle.pricing_laws.specs.Gains.{gains_of, cost_of}
+use Rattle.pricing_laws.specs.Groupings.{Groups, AreGroups, weight_at, gain_at}
 use Rattle.slab_price.specs.Groupings.{IsApart}
 use Rattle.slab_price.specs.Parts.{IsPart, left_of}
 use Rattle.slab_price.specs.Searches.{AreChosen, IsBestFrom, IsBestOn, IsPack}

@@ -5,12 +5,12 @@ use Rattle.mill_model.specs.declared.kind.Kind.{Kind}
 use Rattle.mill_model.specs.Mill.{Mill}
 use Rattle.mill_model.specs.SignedSums.{total_by}
 use Rattle.mill_model.specs.Columns.{IsInStock, Rises, colours_of, order_at, size_of}
-use Rattle.mill_model.specs.Groups.{head_of, members}
+use Rattle.pricing_laws.specs.Groups.{head_of, members}
 use Rattle.mill_model.specs.Prices.{Prices}
 use Rattle.mill_model.specs.Decisions.{Decision}
 use Rattle.slab_price.specs.declared.frame.Frame.{Frame}
-use Rattle.mill_model.specs.Gains.{cost_of}
-use Rattle.mill_model.specs.Groupings.{Groups, AreGroups, weight_at, gain_at}
+use Rattle.pricing_laws.specs.Gains.{cost_of}
+use Rattle.pricing_laws.specs.Groupings.{Groups, AreGroups, weight_at, gain_at}
 use Rattle.slab_price.specs.Parts.{IsPart, left_of}
 
 -- the order's colour is one of two

@@ -5,7 +5,7 @@ use Rattle.mill_model.specs.declared.kind.Kind.{Kind}
 use Rattle.mill_model.specs.Mill.{Mill, IsInLimits}
 use Rattle.mill_model.specs.SignedSums.{total_by}
 use Rattle.mill_model.specs.Columns.{Column, IsLegalColumn, Rises, colours_of, load}
-use Rattle.mill_model.specs.Groups.{members}
+use Rattle.pricing_laws.specs.Groups.{members}
 use Rattle.mill_model.specs.Prices.{Prices}
 use Rattle.mill_model.specs.Decisions.{Decision, column_agrees}
 use Rattle.slab_decide.specs.Decided.{Decisions}
@@ -16,8 +16,8 @@ use Rattle.slab_price.specs.declared.queue.Queue.{Queue}
 use Rattle.slab_price.specs.Bounds.{HaveColours, IsFrame, AreQueued, AreSteps, IsTable}
 use Rattle.slab_price.specs.Excess.{excess, BelongTogether, IsFound}
 use Rattle.slab_price.specs.Found.{Found}
-use Rattle.mill_model.specs.Gains.{gains_of}
-use Rattle.mill_model.specs.Groupings.{Groups, weight_at, gain_at}
+use Rattle.pricing_laws.specs.Gains.{gains_of}
+use Rattle.pricing_laws.specs.Groupings.{Groups, weight_at, gain_at}
 use Rattle.slab_price.specs.Parts.{IsPart, left_of}
 
 -- a mill with all that is asked about it

@@ -3,7 +3,7 @@ ghost use Rattle.std.specs.Prelude.{◌≡◌, ◌+◌, ◌^◌, ◌<◌, ◌≤
 ghost use Rattle.mill_model.specs.declared.kind.Kind.{Kind};
 ghost use Rattle.mill_model.specs.Columns.{IsInStock, size_of};
 ghost use Rattle.slab_price.specs.Bounds.{AreEnds};
-ghost use Rattle.mill_model.specs.Gains.{cost_of};
+ghost use Rattle.pricing_laws.specs.Gains.{cost_of};
 ghost use Rattle.slab_price.specs.Searches.{IsTask};
 
 use crate::task::Task;

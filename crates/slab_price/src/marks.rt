@@ -2,7 +2,7 @@
 ghost use Rattle.std.specs.Prelude.{◌≡◌, ◌<◌, ◌≤◌, ℕ, true, false, length, slice_index_or, vec_capacity};
 ghost use Rattle.slab_price.specs.Bounds.{HasColour, AreMarked, AreGathered};
 ghost use Rattle.slab_price.specs.Parts.{left_of};
-ghost use Rattle.mill_model.specs.Groups.{head_of};
+ghost use Rattle.pricing_laws.specs.Groups.{head_of};
 
 use mill_model::Mill;
 

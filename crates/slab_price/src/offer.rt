@@ -4,7 +4,7 @@ ghost use Rattle.mill_model.specs.declared.kind.Kind.{Kind};
 ghost use Rattle.mill_model.specs.Columns.{IsInStock, IsLegalColumn, size_of};
 ghost use Rattle.mill_model.specs.Decisions.{column_agrees};
 ghost use Rattle.mill_model.specs.LeastSizes.{IsOfLeastSize};
-ghost use Rattle.mill_model.specs.Gains.{cost_of};
+ghost use Rattle.pricing_laws.specs.Gains.{cost_of};
 ghost use Rattle.slab_price.specs.Searches.{IsTask, IsPack, IsBest, IsBestOn};
 
 use crate::best::Best;

@@ -1,7 +1,7 @@
 //! What the groups of each colour gain at most.
 ghost use Rattle.std.specs.Prelude.{◌≡◌, ◌+◌, ◌^◌, ◌<◌, ◌≤◌, pos, IfOk, length, unsigned_abs};
 ghost use Rattle.slab_price.specs.Bounds.{ArePlus};
-ghost use Rattle.mill_model.specs.Groupings.{AreGroups};
+ghost use Rattle.pricing_laws.specs.Groupings.{AreGroups};
 ghost use Rattle.slab_price.specs.Searches.{IsTask};
 
 use crate::groups::Groups;

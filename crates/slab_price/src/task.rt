@@ -2,7 +2,7 @@
 ghost use Rattle.std.specs.Prelude.{◌≡◌, ◌^◌, ◌≤◌, pos, ◌*ℤ◌, unsigned_abs};
 ghost use Rattle.mill_model.specs.Columns.{IsInStock, size_of};
 ghost use Rattle.mill_model.specs.Prices.{charge};
-ghost use Rattle.mill_model.specs.Gains.{cost_of};
+ghost use Rattle.pricing_laws.specs.Gains.{cost_of};
 ghost use Rattle.slab_price.specs.Searches.{IsTask};
 
 use loss_table::LossTable;

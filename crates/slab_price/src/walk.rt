@@ -2,9 +2,9 @@
 ghost use Rattle.std.specs.Prelude.{◌≡◌, ◌+◌, ◌^◌, ◌<◌, ◌≤◌, pos, ◌-ℤ◌, ◌≤ℤ◌, unsigned_abs, length, [], ◌++◌, ◌↔◌, IsTrue, true, vec_capacity};
 ghost use Rattle.std.specs.Bool.{OnTrue};
 ghost use Rattle.mill_model.specs.Columns.{has};
-ghost use Rattle.mill_model.specs.Groups.{members};
+ghost use Rattle.pricing_laws.specs.Groups.{members};
 ghost use Rattle.slab_price.specs.Bounds.{IsMost};
-ghost use Rattle.mill_model.specs.Groupings.{weight_at, gain_at};
+ghost use Rattle.pricing_laws.specs.Groupings.{weight_at, gain_at};
 ghost use Rattle.slab_price.specs.Parts.{left_of};
 ghost use Rattle.slab_price.specs.Searches.{IsHunt, IsBest, IsBestFrom, AreChosen};
 

@@ -5,7 +5,7 @@ use Rattle.std.proofs.lemmas.Int.{ints}
 use Rattle.std.proofs.lemmas.Nat.{mul-le}
 use Rattle.std.proofs.lemmas.List.{length_push}
 use Rattle.slab_price.specs.Bounds.{IsTable}
-use Rattle.mill_model.specs.Groupings.{weight_at, gain_at}
+use Rattle.pricing_laws.specs.Groupings.{weight_at, gain_at}
 use Rattle.slab_price.proofs.Tables.{table_more}
 use Rattle.slab_price.proofs.table.push_row.Goals as goal
 

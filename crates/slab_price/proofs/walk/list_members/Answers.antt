@@ -4,8 +4,8 @@ use Rattle.std.proofs.Common.{Vec, Global}
 use Rattle.std.proofs.lemmas.Bool.{cond-true, cond-false}
 use Rattle.std.proofs.lemmas.List.{length_push, length-take, take_more}
 use Rattle.mill_model.specs.Columns.{has}
-use Rattle.mill_model.specs.Groups.{members}
-use Rattle.mill_model.proofs.Groups.{members_from-push}
+use Rattle.pricing_laws.specs.Groups.{members}
+use Rattle.pricing_laws.proofs.Groups.{members_from-push}
 use Rattle.slab_price.proofs.walk.list_members.Goals as goal
 use Rattle.slab_price.proofs.walk.list_members.Goals.{then-has, else-has}
 

@@ -3,7 +3,7 @@ use Rattle.std.specs.Prelude.{◌-ℤ◌}
 use Rattle.std.proofs.lemmas.Int.{ints}
 use Rattle.mill_model.specs.declared.kind.Kind.TheVariants.{New}
 use Rattle.mill_model.specs.Decisions.{column_agrees}
-use Rattle.mill_model.specs.Gains.{cost_of}
+use Rattle.pricing_laws.specs.Gains.{cost_of}
 use Rattle.mill_model.specs.LeastSizes.{IsLeastSize}
 use Rattle.slab_price.proofs.Packs.{pack_new}
 use Rattle.slab_price.proofs.task.Task.offer_new.Goals as goal

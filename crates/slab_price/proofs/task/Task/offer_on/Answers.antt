@@ -2,7 +2,7 @@ use Rattle.std.proofs.Common.{◌≡◌, pos, ◌≤ℤ◌, true, length, arith,
 use Rattle.std.specs.Prelude.{◌-ℤ◌, ◌<ℤ◌}
 use Rattle.std.proofs.lemmas.Int.{ints}
 use Rattle.mill_model.specs.Decisions.{column_agrees}
-use Rattle.mill_model.specs.Gains.{cost_of}
+use Rattle.pricing_laws.specs.Gains.{cost_of}
 use Rattle.slab_price.proofs.Packs.{best_sign, pack_found}
 use Rattle.slab_price.proofs.Queues.{rises_length}
 use Rattle.slab_price.proofs.task.Task.offer_on.Goals as goal

@@ -4,7 +4,7 @@ use Rattle.std.specs.Vec.{vec_capacity}
 use Rattle.mill_model.specs.declared.kind.Kind.TheVariants.{Old}
 use Rattle.mill_model.specs.Columns.{size_of}
 use Rattle.mill_model.specs.Decisions.{column_agrees}
-use Rattle.mill_model.specs.Gains.{cost_of}
+use Rattle.pricing_laws.specs.Gains.{cost_of}
 use Rattle.slab_price.specs.Searches.{IsBest}
 use Rattle.slab_price.proofs.task.Task.offer_yard.Given as goal
 

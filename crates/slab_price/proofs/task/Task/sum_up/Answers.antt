@@ -4,7 +4,7 @@ use Rattle.std.specs.Int.{w128}
 use Rattle.std.proofs.lemmas.Int.{ints}
 use Rattle.mill_model.specs.Columns.{order_at}
 use Rattle.slab_price.specs.Bounds.{ArePlus}
-use Rattle.mill_model.specs.Groupings.{gain_at}
+use Rattle.pricing_laws.specs.Groupings.{gain_at}
 use Rattle.slab_price.proofs.Numbers.{sum_back, max_small}
 use Rattle.slab_price.proofs.Sums.{plus_more}
 use Rattle.slab_price.proofs.task.Task.sum_up.Goals as goal

@@ -5,7 +5,7 @@ use Rattle.std.proofs.lemmas.Bool.{OnTrue_at}
 use Rattle.std.proofs.lemmas.Int.{ints}
 use Rattle.std.proofs.lemmas.List.{get_or_default}
 use Rattle.mill_model.specs.Columns.{Rises}
-use Rattle.mill_model.specs.Groupings.{weight_at, gain_at}
+use Rattle.pricing_laws.specs.Groupings.{weight_at, gain_at}
 use Rattle.slab_price.specs.Groupings.{IsApart}
 use Rattle.slab_price.specs.Parts.{left_of}
 use Rattle.slab_price.specs.Searches.{AreChosen, IsBestFrom}

@@ -4,7 +4,7 @@ use Rattle.std.specs.Int.{w128}
 use Rattle.std.specs.Vec.{vec_len}
 use Rattle.std.proofs.lemmas.Int.{ints}
 use Rattle.std.proofs.lemmas.Bool.{eqb-false}
-use Rattle.mill_model.specs.Groups.{members}
+use Rattle.pricing_laws.specs.Groups.{members}
 use Rattle.slab_price.specs.Searches.{IsPack}
 use Rattle.slab_price.proofs.Walks.{chosen_pack, chosen_small}
 use Rattle.slab_price.proofs.walk.Hunt.offer.Goals as goal
