@@ -22,7 +22,7 @@ use Rattle.pricing_laws.proofs.Excesses.{excess_split}
 use Rattle.pricing_laws.proofs.Groups.{has-members}
 use Rattle.pricing_laws.proofs.Groupings.{group_gains, group_small, group_weights}
 use Rattle.pricing_laws.proofs.Parts.{distinct_below, has_here, has_later, has_left, has_left_of, has_right, left_more, part_distinct, part_has, part_later, part_next, part_nil}
-use Rattle.pricing_laws.proofs.Problems.{exceed_both, exceed_weaker}
+use Rattle.pricing_laws.proofs.Problems.{exceed_none}
 
 pub total_small : (f : ℕ → ℤ) (n : ℕ) (xs : List ℕ) → ((x : ℕ) → has xs x ≡ true → x < n) → ((x : ℕ) → x < n → unsigned_abs (f x) ≤ 2 ^ 84) → unsigned_abs (total_by f xs) ≤ length xs * 2 ^ 84
 total_small f n [] inside h = omega arith
@@ -126,26 +126,9 @@ module _ (q : Problem) (g : Groups) (groups : AreGroups q.mill q.decisions q.pri
         chain e all left cost most gain h i j = omega (arith, ints)
 
   module _ (left : ℕ) (chosen : List ℕ) (weight : ℕ) (gain : ℤ) (taken : AreChosen g queue (left + 1) chosen weight gain) where
-    -- both ways are searched
-    pub choice_both : (first most : ℤ) → first ≤ℤ most → ExceedAtMost q first (IsChoice g.heads (chosen ++ get_or queue left 0 ∷ []) (left_of queue left)) → ExceedAtMost q most (IsChoice g.heads chosen (left_of queue left))
-        → ExceedAtMost q most (IsChoice g.heads chosen (left_of queue (left + 1)))
-    choice_both first most le h k =
-        exceed_both q first most (IsChoice g.heads (chosen ++ get_or queue left 0 ∷ []) (left_of queue left)) (IsChoice g.heads chosen (left_of queue left)) (IsChoice g.heads chosen (left_of queue (left + 1))) le
-        (λ c allowed choice. choice_step g.heads queue chosen left c choice) h k
-
-    -- no column has the next group
-    choice_without : (most : ℤ) → ((c : Column) → IsAllowed q c → IsChoice g.heads (chosen ++ get_or queue left 0 ∷ []) (left_of queue left) c → ⊥) → ExceedAtMost q most (IsChoice g.heads chosen (left_of queue left))
-        → ExceedAtMost q most (IsChoice g.heads chosen (left_of queue (left + 1)))
-    choice_without most never k c allowed choice = step (choice_step g.heads queue chosen left c choice)
-      where
-        step : IsChoice g.heads (chosen ++ get_or queue left 0 ∷ []) (left_of queue left) c ⊎ IsChoice g.heads chosen (left_of queue left) c → excess q.mill q.prices c ≤ℤ most
-        step (inl with) = absurd (never c allowed with)
-        step (inr without) = k c allowed without
-
-    -- no slab holds it too
-    pub choice_heavy : (most : ℤ) (ends : List ℤ) → AreEnds q.mill q.prices ends → length ends ≤ weight + weight_at g (get_or queue left 0) → ExceedAtMost q most (IsChoice g.heads chosen (left_of queue left))
-        → ExceedAtMost q most (IsChoice g.heads chosen (left_of queue (left + 1)))
-    choice_heavy most ends are heavy = choice_without most too_heavy
+    -- no slab holds the next group too
+    pub choice_heavy : (most : ℤ) (ends : List ℤ) → AreEnds q.mill q.prices ends → length ends ≤ weight + weight_at g (get_or queue left 0) → ExceedAtMost q most (IsChoice g.heads (chosen ++ get_or queue left 0 ∷ []) (left_of queue left))
+    choice_heavy most ends are heavy = exceed_none q most (IsChoice g.heads (chosen ++ get_or queue left 0 ∷ []) (left_of queue left)) too_heavy
       where
         too_heavy : (c : Column) → IsAllowed q c → IsChoice g.heads (chosen ++ get_or queue left 0 ∷ []) (left_of queue left) c → ⊥
         too_heavy c allowed choice =
@@ -154,8 +137,8 @@ module _ (q : Problem) (g : Groups) (groups : AreGroups q.mill q.decisions q.pri
             omega (arith, heavy, weights, allowed.legal.fits.weight, are.room c.kind allowed.legal.fits.kind)
 
     -- the decisions keep it apart from one that is chosen
-    pub choice_apart : (most : ℤ) → IsApart q.decisions chosen (get_or queue left 0) → ExceedAtMost q most (IsChoice g.heads chosen (left_of queue left)) → ExceedAtMost q most (IsChoice g.heads chosen (left_of queue (left + 1)))
-    choice_apart most (other, chose, apart) = choice_without most never
+    pub choice_apart : (most : ℤ) → IsApart q.decisions chosen (get_or queue left 0) → ExceedAtMost q most (IsChoice g.heads (chosen ++ get_or queue left 0 ∷ []) (left_of queue left))
+    choice_apart most (other, chose, apart) = exceed_none q most (IsChoice g.heads (chosen ++ get_or queue left 0 ∷ []) (left_of queue left)) never
       where
         never : (c : Column) → IsAllowed q c → IsChoice g.heads (chosen ++ get_or queue left 0 ∷ []) (left_of queue left) c → ⊥
         never c allowed choice =

@@ -139,7 +139,13 @@ members_from-push low (y ∷ heads) head taken =
     by_test true e = ap (λ ys. low ∷ ys) e
     by_test false e = e
 
--- one order more
+-- one order more of the groups taken
+pub members_take : (heads taken : List ℕ) (o : ℕ) → o < length heads → members (take (o + 1) heads) taken ≡ members (take o heads) taken ++ cond (has taken (head_of heads o)) (o ∷ []) []
+members_take heads taken o h =
+    ap (λ hs. members hs taken) (take_more heads o 0 h) ∙ members_from-push 0 (take o heads) (head_of heads o) taken
+    ∙ ap (λ n. members (take o heads) taken ++ cond (has taken (head_of heads o)) (n ∷ []) []) (omega (arith, length-take o heads))
+
+-- one order more of one group
 pub members-more : (heads : List ℕ) (h o : ℕ) → o < length heads → members (take (o + 1) heads) (h ∷ []) ≡ members (take o heads) (h ∷ []) ++ cond (eqb h (head_of heads o)) (o ∷ []) []
 members-more heads h o l =
     ap (λ hs. members hs (h ∷ [])) (take_more heads o 0 l)

@@ -1,8 +1,8 @@
 -- Parts of a list, distinct numbers, and what is left of a queue.
 use Rattle.std.proofs.Math.ListN.{get_or-append}
-use Rattle.std.proofs.Common.{◌≡◌, inl, inr, ℕ, zero, suc, ◌+◌, ◌<◌, ◌≤◌, Bool, true, false, cond, ◌&&◌, ◌||◌, eqb, List, [], ◌∷◌, ◌++◌, length, get_or, refl, sym, subst, ap, ap₂, ◌∙◌, arith, add-one}
+use Rattle.std.proofs.Common.{◌≡◌, inl, inr, ℕ, zero, suc, ◌+◌, ◌-◌, ◌<◌, ◌≤◌, Bool, true, false, cond, ◌&&◌, ◌||◌, eqb, List, [], ◌∷◌, ◌++◌, length, get_or, take, refl, sym, subst, ap, ap₂, ◌∙◌, arith, add-one}
 use Rattle.std.specs.List.{filter}
-use Rattle.std.proofs.Math.Seq.{get_or-append_seam}
+use Rattle.std.proofs.Math.Seq.{get_or-append_seam, take-append_seam}
 use Rattle.std.proofs.lemmas.Bool.{cases_Bool, cases_eq, cond_both, eqb-true, eq-eqb, ne_eqb, or_cases, or_left, or_right, or_from, both_ways}
 use Rattle.std.proofs.lemmas.List.{length_push}
 use Rattle.mill_model.specs.Columns.{Rises, has, different}
@@ -204,3 +204,31 @@ left_distinct queue (suc n) le d = (
   where
     twice : ((k : ℕ) × (k < n) × (get_or queue k 0 ≡ get_or queue n 0)) → ⊥
     twice (k, h, s) = distinct_at queue k n d h (omega arith) s
+
+-- a push and a pop leave the list as it was
+pub popped : (xs ys zs : List ℕ) (y n : ℕ) → ys ≡ xs ++ y ∷ [] → n ≡ length ys → zs ≡ take (n - 1) ys → zs ≡ xs
+popped xs ys zs y n pushed long rest =
+    let size : length ys ≡ length xs + 1 = ap length pushed ∙ length_push xs y in
+    let short : n - 1 ≡ length xs = omega arith in
+    rest ∙ ap (λ k. take k ys) short ∙ ap (λ (us : List ℕ). take (length xs) us) pushed ∙ take-append_seam xs (y ∷ [])
+
+take_has : (xs : List ℕ) (k x : ℕ) → has (take k xs) x ≡ true → (i : ℕ) × (i < k) × (i < length xs) × (get_or xs i 0 ≡ x)
+take_has xs zero x e = absurd (has_none x e)
+take_has [] (suc k) x e = absurd (has_none x e)
+take_has (y ∷ ys) (suc k) x e = elim (or_cases (eqb y x) (has (take k ys) x) e) [
+  | inl q ↦ (0, omega arith, omega arith, eqb-true y x q)
+  | inr q ↦ later (take_has ys k x q)
+]
+  where
+    later : ((i : ℕ) × (i < k) × (i < length ys) × (get_or ys i 0 ≡ x)) → (i : ℕ) × (i < suc k) × (i < length (y ∷ ys)) × (get_or (y ∷ ys) i 0 ≡ x)
+    later (i, h, l, s) = (suc i, omega arith, omega arith, s)
+
+-- a number of a distinct list doesn't stand before itself
+pub distinct_take : (xs : List ℕ) (k : ℕ) → AreDistinct xs → k < length xs → has (take k xs) (get_or xs k 0) ≡ false
+distinct_take xs k d h = elim (cases_Bool (has (take k xs) (get_or xs k 0))) [
+  | inl e ↦ absurd (twice (take_has xs k (get_or xs k 0) e))
+  | inr e ↦ e
+]
+  where
+    twice : ((i : ℕ) × (i < k) × (i < length xs) × (get_or xs i 0 ≡ get_or xs k 0)) → ⊥
+    twice (i, l, m, s) = distinct_at xs i k d l h s

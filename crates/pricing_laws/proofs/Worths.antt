@@ -7,7 +7,7 @@ use Rattle.std.proofs.lemmas.Bool.{cases_eq, cases_lt, eqb-true, or_cases}
 use Rattle.std.proofs.lemmas.List.{get_or_past, get_or-replicate, length-replicate}
 use Rattle.std.proofs.lemmas.List.Sums.{sum_by-cons}
 use Rattle.std.proofs.Math.ListN.{replicate}
-use Rattle.mill_model.specs.Mill.{Mill}
+use Rattle.mill_model.specs.Mill.{Mill, IsBetween}
 use Rattle.mill_model.specs.SignedSums.{total_by}
 use Rattle.mill_model.specs.Columns.{Column, Rises, has, load, loss_of}
 use Rattle.mill_model.specs.Prices.{Prices, charge, price_at}
@@ -165,7 +165,7 @@ pub taken_distinct : (m : Mill) (worths : List ℤ) (ranking : List ℕ) (rank :
 taken_distinct m worths ranking rank taken worth ranked a =
     subst AreDistinct (append-nil taken) (part_distinct (taken ++ []) (left_of ranking (length ranking)) (a.part [] (part_nil (left_of ranking rank))) (left_distinct ranking (length ranking) (omega arith) ranked.distinct))
 
-pub taken_known : (m : Mill) (worths : List ℤ) (ranking : List ℕ) (rank : ℕ) (taken : List ℕ) (worth : ℤ) → IsRanking m worths ranking → AreTaken worths ranking rank taken worth → (c : ℕ) → has taken c ≡ true → c ≤ m.colours
+pub taken_known : (m : Mill) (worths : List ℤ) (ranking : List ℕ) (rank : ℕ) (taken : List ℕ) (worth : ℤ) → IsRanking m worths ranking → AreTaken worths ranking rank taken worth → (c : ℕ) → has taken c ≡ true → IsBetween 1 m.colours c
 taken_known m worths ranking rank taken worth ranked a c e =
     ranked.known c (whole_has ranking (length ranking) c (omega arith) (part_has (taken ++ []) (left_of ranking (length ranking)) (a.part [] (part_nil (left_of ranking rank))) c (has_left taken [] c e)))
 

@@ -43,8 +43,12 @@ pub record IsEnd (ends : List ℤ) (size : ℕ) (value : ℤ) : Type 0 where
   pub room : size < length ends
   pub below : (load : ℕ) → load ≤ size → value ≤ℤ slice_index_or ends load (pos 0)
 
+-- the entries of a table are small enough to be added to
+abbrev pub AreSmall : List ℤ → Type 0
+AreSmall table = (k : ℕ) → k < length table → unsigned_abs (slice_index_or table k (pos 0)) ≤ 2 ^ 100 + k * 2 ^ 84
+
 -- a row of the table for each number of groups, with an entry for each column: no part of the first so many groups that such slabs hold beside the column's load gains more, with the value
 pub record IsTable (g : Groups) (queue : List ℕ) (ends : List ℤ) (step width : ℕ) (table : List ℤ) : Type 0 where
   pub most : (left column : ℕ) (more : List ℕ) (size : ℕ) (value : ℤ) → column < width → left * width + column < length table → IsPart more (left_of queue left) → IsEnd ends size value → column * step + sum_by (weight_at g) more ≤ size
       → (total_by (gain_at g) more +ℤ value) ≤ℤ slice_index_or table (left * width + column) (pos 0)
-  pub small : (k : ℕ) → k < length table → unsigned_abs (slice_index_or table k (pos 0)) ≤ 2 ^ 100 + k * 2 ^ 84
+  pub small : AreSmall table

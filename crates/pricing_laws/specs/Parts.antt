@@ -1,11 +1,17 @@
 -- Parts of a list, and a list that is gone through from its last number to its first.
 use Rattle.std.specs.Prelude.{◌≡◌, ◌⊎◌, ℕ, zero, suc, false, List, [], ◌∷◌, slice_index_or}
+use Rattle.std.specs.Coded.{Coded-set, coded_bool, ×_prop, Unit-prop}
 use Rattle.mill_model.specs.Columns.{has}
 
 -- no number stands twice
 abbrev pub AreDistinct : List ℕ → Type 0
 AreDistinct [] = Unit {0}
 AreDistinct (x ∷ xs) = (has xs x ≡ false) × AreDistinct xs
+
+-- which has one proof at most
+pub AreDistinct-prop : (xs : List ℕ) → IsProp (AreDistinct xs)
+AreDistinct-prop [] = Unit-prop
+AreDistinct-prop (x ∷ xs) = ×_prop (Coded-set coded_bool (has xs x) false) (AreDistinct-prop xs)
 
 -- some numbers of a list, in its order
 abbrev pub IsPart : List ℕ → List ℕ → Type 0
