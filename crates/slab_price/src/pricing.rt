@@ -29,6 +29,7 @@ pub fn worst(
     ensures some { IfOk result (λ answer. IfSome answer (IsWorst mill.now decisions.now.list prices.now)) }
     ensures none { IfOk result (λ answer. IfNone answer (IsGreatest mill.now decisions.now.list prices.now (pos 0))) }
 {
+    let count = mill.orders().len();
     let task = Task {
         mill,
         table,
@@ -36,7 +37,7 @@ pub fn worst(
         prices,
     };
     let frame = task.frame(alloc)?;
-    let queue = Queue::new(alloc, mill.orders().len(), frame.ends.len())?;
+    let queue = Queue::new(alloc, count, frame.ends.len())?;
     let mut space = Space::new(alloc, queue);
     let mut picks = Picks::new(alloc)?;
     let search = Search {
