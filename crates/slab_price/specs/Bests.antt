@@ -8,6 +8,8 @@ use Rattle.pricing_laws.specs.Problems.{Problem, ExceedAtMost}
 use Rattle.slab_price.specs.declared.best.Best.{Best}
 use Rattle.slab_price.specs.Excess.{IsFound}
 use Rattle.slab_price.specs.Found.{Found}
+use Rattle.slab_price.specs.Tasks.{problem_of}
+use Rattle.slab_price.specs.declared.task.Task.{Task}
 
 abbrev pub as_found : Best → Found
 as_found best = record { kind = best.kind; orders = best.orders.items; excess = best.excess }
@@ -21,6 +23,9 @@ pub record IsImproved (q : Problem) (old new : Best) (IsSo : Column → Type 0) 
   pub kept : IsBest q old → IsBest q new
   pub grows : old.excess ≤ℤ new.excess
   pub most : ExceedAtMost q new.excess IsSo
+
+abbrev pub IsImprovedIn : Task → Best → Best → (Column → Type 0) → Type 0
+IsImprovedIn t old new IsSo = IsImproved (problem_of t) old new IsSo
 
 -- some orders that may lie on one slab, by their colours, with their load and gain
 pub record IsPack (q : Problem) (orders : List ℕ) (weight : ℕ) (gain : ℤ) : Type 0 where

@@ -29,12 +29,15 @@ IsOfSetIn s taken rank left c = IsOfSet s.task.mill.now taken (left_of s.frame.n
 abbrev pub whole : List ℕ → List ℕ
 whole queue = left_of queue (length queue)
 
+abbrev pub IsGroupIn : Search → List ℕ → ℕ → Type 0
+IsGroupIn s colours head = IsGroupOf s.task.mill.now s.frame.now.groups.heads colours head
+
 -- the heads of the groups of the colours whose own colour is one of some
 pub record AreGathered (s : Search) (colours some heads : List ℕ) : Type 0 where
   pub distinct : AreDistinct (whole heads)
-  pub sound : (head : ℕ) → has (whole heads) head ≡ true → IsGroupOf s.task.mill.now s.frame.now.groups.heads colours head
+  pub sound : (head : ℕ) → has (whole heads) head ≡ true → IsGroupIn s colours head
   pub own : (head : ℕ) → has (whole heads) head ≡ true → has some (colour_at s.task.mill.now head) ≡ true
-  pub all : (head : ℕ) → IsGroupOf s.task.mill.now s.frame.now.groups.heads colours head → has some (colour_at s.task.mill.now head) ≡ true → has (whole heads) head ≡ true
+  pub all : (head : ℕ) → IsGroupIn s colours head → has some (colour_at s.task.mill.now head) ≡ true → has (whole heads) head ≡ true
 
 -- heads of orders
 pub record AreHeadsIn (s : Search) (heads : List ℕ) : Type 0 where

@@ -43,7 +43,8 @@ impl Best {
 
     /// The column, where there is one.
     pub(crate) fn found(self) -> Option<Found>
-        ensures some { IfSome result (λ found. found ≡ record { kind = self.kind; orders = self.orders.items; excess = self.excess }) }
+        ensures some { IfSome result (λ found.
+            found ≡ record { kind = self.kind; orders = self.orders.items; excess = self.excess }) }
         ensures above { IfSome result (λ _. pos 0 <ℤ self.excess) }
         ensures none { IfNone result (pos 0 <ℤ self.excess → ⊥) }
     {

@@ -17,7 +17,8 @@ pub(crate) struct Chains {
 fn link(keys: &[u16], first: &mut [u16], next: &mut [u16])
     requires few { length keys.now ≤ 250 }
     requires keys { (i : ℕ) → i < length keys.now → slice_index keys.now i < length first.old }
-    requires none { IsChainedFrom (slice_index keys.now) (length keys.now) (length keys.now) first.old next.old }
+    requires none { IsChainedFrom (slice_index keys.now)
+        (length keys.now) (length keys.now) first.old next.old }
     ensures { IsChainedFrom (slice_index keys.now) (length keys.now) 0 first.new next.new }
 {
     let mut at = keys.len();

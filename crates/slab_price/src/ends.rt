@@ -30,7 +30,8 @@ fn greatest(sizes: &[u16], first: u16) -> u16
 impl Task<'_> {
     /// At least the size of each slab.
     fn room(&self) -> u16
-        ensures most { (kind : Kind) → IsInStock self.now.mill.now kind → size_of self.now.mill.now kind ≤ result }
+        ensures most { (kind : Kind) → IsInStock self.now.mill.now kind
+            → size_of self.now.mill.now kind ≤ result }
         ensures within { result ≤ 10000 }
     {
         greatest(self.mill.yard(), greatest(self.mill.sizes(), 0))

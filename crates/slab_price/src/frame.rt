@@ -1,6 +1,6 @@
 //! What stands through a call of pricing.
-ghost use Rattle.std.specs.Prelude.{◌≡◌, ◌+◌, ◌<◌, ℕ, IfOk, length, slice_index};
-ghost use Rattle.slab_price.specs.Frames.{IsFrame, colour_key};
+ghost use Rattle.std.specs.Prelude.{◌≡◌, ◌+◌, IfOk, length};
+ghost use Rattle.slab_price.specs.Frames.{AreColourKeys, IsFrame};
 
 use crate::chains::Chains;
 use crate::groups::Groups;
@@ -30,7 +30,7 @@ impl Task<'_> {
     fn colour_keys(&self, alloc: Global, heads: &[u16]) -> Result<Vec<u16>, AllocError>
         requires { length heads.now ≡ length self.now.mill.now.orders }
         ensures size { IfOk result (λ keys. length keys.items ≡ length heads.now) }
-        ensures keys { IfOk result (λ keys. (o : ℕ) → o < length heads.now → slice_index keys.items o ≡ colour_key self.now.mill.now heads.now o) }
+        ensures keys { IfOk result (λ keys. AreColourKeys self.now.mill.now heads.now keys.items) }
     {
         let mut keys = Vec::with_capacity(alloc, heads.len())?;
         for (order, head) in heads.iter().enumerate() {

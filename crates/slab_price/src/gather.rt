@@ -1,9 +1,8 @@
 //! The groups of some colours, gathered into the queue.
 ghost use Rattle.std.specs.Prelude.{◌≡◌, ◌+◌, ◌<◌, length, take};
 ghost use Rattle.std.specs.Bool.{OnTrue, OnFalse};
-ghost use Rattle.pricing_laws.specs.Colours.{IsGroupOf};
 ghost use Rattle.pricing_laws.specs.Groups.{head_of};
-ghost use Rattle.slab_price.specs.Searches.{AreGathered, AreHeadsIn, AreRanked, IsQueue, IsTabulated};
+ghost use Rattle.slab_price.specs.Searches.{AreGathered, AreHeadsIn, AreRanked, IsGroupIn, IsQueue, IsTabulated};
 
 use crate::queue::Queue;
 use crate::search::Search;
@@ -15,8 +14,8 @@ impl Search<'_> {
     fn is_group_of(&self, head: u16, colours: &[u16]) -> bool
         requires inside { head < length self.now.task.mill.now.orders }
         requires own { head_of self.now.frame.now.groups.heads head ≡ head }
-        ensures yes { OnTrue result (IsGroupOf self.now.task.mill.now self.now.frame.now.groups.heads colours.now head) }
-        ensures no { OnFalse result (IsGroupOf self.now.task.mill.now self.now.frame.now.groups.heads colours.now head → ⊥) }
+        ensures yes { OnTrue result (IsGroupIn self.now colours.now head) }
+        ensures no { OnFalse result (IsGroupIn self.now colours.now head → ⊥) }
     {
         let orders = self.task.mill.orders();
         let mut order = self.frame.by_head.first[usize::from(head)];
@@ -33,8 +32,10 @@ impl Search<'_> {
     fn gather_colour(&self, colours: &[u16], at: usize, queue: &mut Queue)
         requires at { at < length colours.now }
         requires ranked { AreRanked self.now colours.now }
-        requires gathered { AreGathered self.now colours.now (take at colours.now) queue.old.heads.items }
-        ensures gathered { AreGathered self.now colours.now (take (at + 1) colours.now) queue.new.heads.items }
+        requires gathered { AreGathered self.now colours.now (take at colours.now)
+            queue.old.heads.items }
+        ensures gathered { AreGathered self.now colours.now (take (at + 1) colours.now)
+            queue.new.heads.items }
     {
         let orders = self.task.mill.orders().len();
         let mut head = self.frame.by_colour.first[usize::from(colours[at])];

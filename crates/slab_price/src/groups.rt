@@ -26,7 +26,8 @@ impl Model for Groups {
 
     ghost Value = { Groups };
 
-    ghost view = { λ g. record { heads = g.heads.items; weights = g.weights.items; gains = g.gains.items } };
+    ghost view = { λ g.
+        record { heads = g.heads.items; weights = g.weights.items; gains = g.gains.items } };
 }
 
 impl Groups {

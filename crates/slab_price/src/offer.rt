@@ -4,7 +4,7 @@ ghost use Rattle.mill_model.specs.declared.kind.Kind.{Kind};
 ghost use Rattle.mill_model.specs.Columns.{IsInStock, has_barred, size_of};
 ghost use Rattle.mill_model.specs.LeastSizes.{IsOfLeastSize};
 ghost use Rattle.slab_price.specs.Tasks.{problem_of};
-ghost use Rattle.slab_price.specs.Bests.{IsImproved, IsPack, IsColumn, IsOnNew, IsOnYard};
+ghost use Rattle.slab_price.specs.Bests.{IsImprovedIn, IsPack, IsColumn, IsOnNew, IsOnYard};
 
 use crate::best::Best;
 use crate::task::Task;
@@ -13,7 +13,8 @@ use mill_model::Kind;
 impl Task<'_> {
     /// Whether one of the orders mustn't lie on the slab.
     fn has_barred(&self, kind: Kind, orders: &[u16]) -> bool
-        ensures { result ≡ has_barred self.now.mill.now (record { kind = kind; orders = orders.now }) }
+        ensures { result ≡ has_barred self.now.mill.now
+            (record { kind = kind; orders = orders.now }) }
     {
         let Kind::Old(slab) = kind else {
             return false;
@@ -32,7 +33,7 @@ impl Task<'_> {
         requires stock { IsInStock self.now.mill.now kind }
         requires holds { weight ≤ size_of self.now.mill.now kind }
         requires least_size { IsOfLeastSize self.now.mill.now weight kind }
-        ensures { IsImproved (problem_of self.now) best.old best.new (IsColumn kind orders.now) }
+        ensures { IsImprovedIn self.now best.old best.new (IsColumn kind orders.now) }
     {
         let excess = gain - self.cost(kind);
         if excess <= best.excess {
@@ -47,7 +48,7 @@ impl Task<'_> {
     /// Takes the orders on the least new slab that holds them, where that column is allowed and better than the best.
     fn offer_new(&self, weight: u32, gain: i128, orders: &[u16], best: &mut Best)
         requires { IsPack (problem_of self.now) orders.now weight gain }
-        ensures { IsImproved (problem_of self.now) best.old best.new (IsOnNew orders.now) }
+        ensures { IsImprovedIn self.now best.old best.new (IsOnNew orders.now) }
     {
         if let Some(size) = self.table.size_for(weight) {
             self.offer_on(Kind::New(size), weight, gain, orders, best);
@@ -58,7 +59,7 @@ impl Task<'_> {
     fn offer_old(&self, slab: u16, weight: u32, gain: i128, orders: &[u16], best: &mut Best)
         requires pack { IsPack (problem_of self.now) orders.now weight gain }
         requires stock { slab < length self.now.mill.now.yard }
-        ensures { IsImproved (problem_of self.now) best.old best.new (IsColumn (Kind.Old slab) orders.now) }
+        ensures { IsImprovedIn self.now best.old best.new (IsColumn (Kind.Old slab) orders.now) }
     {
         if weight <= u32::from(self.size(Kind::Old(slab))) {
             self.offer_on(Kind::Old(slab), weight, gain, orders, best);
@@ -68,7 +69,8 @@ impl Task<'_> {
     /// Takes the orders on the best surplus slab, where that column is allowed and better than the best.
     fn offer_yard(&self, weight: u32, gain: i128, orders: &[u16], best: &mut Best)
         requires { IsPack (problem_of self.now) orders.now weight gain }
-        ensures { IsImproved (problem_of self.now) best.old best.new (IsOnYard (length self.now.mill.now.yard) orders.now) }
+        ensures { IsImprovedIn self.now best.old best.new
+            (IsOnYard (length self.now.mill.now.yard) orders.now) }
     {
         let count = self.mill.yard().len();
         for slab in 0..count {
@@ -79,7 +81,7 @@ impl Task<'_> {
     /// Takes the orders on the best slab, where that column is allowed and better than the best.
     pub(crate) fn offer(&self, weight: u32, gain: i128, orders: &[u16], best: &mut Best)
         requires { IsPack (problem_of self.now) orders.now weight gain }
-        ensures { IsImproved (problem_of self.now) best.old best.new (λ c. c.orders ≡ orders.now) }
+        ensures { IsImprovedIn self.now best.old best.new (λ c. c.orders ≡ orders.now) }
     {
         self.offer_new(weight, gain, orders, best);
         self.offer_yard(weight, gain, orders, best);

@@ -6,7 +6,7 @@ ghost use Rattle.pricing_laws.specs.Colours.{AreOf};
 ghost use Rattle.pricing_laws.specs.Parts.{left_of};
 ghost use Rattle.pricing_laws.specs.Problems.{ExceedAtMost};
 ghost use Rattle.pricing_laws.specs.Worths.{worth_of};
-ghost use Rattle.slab_price.specs.Bests.{IsImproved};
+ghost use Rattle.slab_price.specs.Bests.{IsImprovedIn};
 ghost use Rattle.slab_price.specs.Searches.{AreRanked, AreTakenFrom, IsOfSetIn, IsQueue};
 ghost use Rattle.slab_price.specs.Tasks.{problem_of};
 
@@ -41,7 +41,8 @@ impl Search<'_> {
     /// What a colour among the first ones of the ranking is worth at most.
     fn top(&self, rank: usize) -> i128
         requires { rank ≤ length self.now.frame.now.ranking.items }
-        ensures most { (colour : ℕ) → has (left_of self.now.frame.now.ranking.items rank) colour ≡ true
+        ensures most { (colour : ℕ)
+            → has (left_of self.now.frame.now.ranking.items rank) colour ≡ true
             → worth_of self.now.frame.now.worths.items colour ≤ℤ result }
         ensures sign { pos 0 ≤ℤ result }
         ensures small { unsigned_abs result ≤ 2 ^ 94 }
@@ -58,7 +59,8 @@ impl Search<'_> {
         requires left { left ≤ 3 }
         requires small { unsigned_abs worth ≤ 2 ^ 100 }
         ensures { (taken : List ℕ) → AreTakenFrom self.now rank taken worth
-            → OnTrue result (ExceedAtMost (problem_of self.now.task) best (IsOfSetIn self.now taken rank left)) }
+            → OnTrue result
+                (ExceedAtMost (problem_of self.now.task) best (IsOfSetIn self.now taken rank left)) }
     {
         worth + i128::from(left) * self.top(rank) - self.frame.floor <= best
     }
@@ -68,7 +70,7 @@ impl Search<'_> {
         requires queue { IsQueue self.now colours.now queue.now }
         requires chosen { picks.old.chosen.items ≡ [] }
         ensures chosen { picks.new.chosen.items ≡ [] }
-        ensures improved { IsImproved (problem_of self.now.task) picks.old.best picks.new.best
+        ensures improved { IsImprovedIn self.now.task picks.old.best picks.new.best
             (λ c. AreOf self.now.task.mill.now colours.now c.orders) }
     {
         let hunt = Hunt {
@@ -84,7 +86,7 @@ impl Search<'_> {
         requires ranked { AreRanked self.now colours.now }
         requires chosen { picks.old.chosen.items ≡ [] }
         ensures chosen { picks.new.chosen.items ≡ [] }
-        ensures improved { IsImproved (problem_of self.now.task) picks.old.best picks.new.best
+        ensures improved { IsImprovedIn self.now.task picks.old.best picks.new.best
             (λ c. AreOf self.now.task.mill.now colours.now c.orders) }
     {
         self.fill(colours, queue);
@@ -107,7 +109,7 @@ impl Search<'_> {
         requires chosen { picks.old.chosen.items ≡ [] }
         ensures colours { space.new.colours.items ≡ space.old.colours.items }
         ensures chosen { picks.new.chosen.items ≡ [] }
-        ensures improved { IsImproved (problem_of self.now.task) picks.old.best picks.new.best
+        ensures improved { IsImprovedIn self.now.task picks.old.best picks.new.best
             (IsOfSetIn self.now space.old.colours.items rank left) }
     {
         if self.is_hopeless(rank, left, worth, picks.best.excess) {

@@ -23,6 +23,20 @@ fn mill_of_three_orders(alloc: Global) -> Result<Mill, AllocError>
     Ok(Mill::new(sizes, 1, orders))
 }
 
+/// A mill of one size, which holds three of its six orders.
+fn mill_of_six_orders(alloc: Global) -> Result<Mill, AllocError>
+    ensures orders { IfOk result (λ mill. length mill.orders ≡ 6) }
+    ensures yard { IfOk result (λ mill. mill.yard ≡ []) }
+{
+    let order = Order {
+        weight: 3,
+        colour: 1,
+    };
+    let sizes = vec![in alloc; 10]?;
+    let orders = vec![in alloc; order, order, order, order, order, order]?;
+    Ok(Mill::new(sizes, 1, orders))
+}
+
 /// A mill of one size, which holds its three orders of three colours, with so many colours on a slab.
 fn mill_of_three_colours(alloc: Global, limit: u16) -> Result<Mill, AllocError>
     requires { IsBetween 1 3 limit }
@@ -87,6 +101,16 @@ fn prices_with_surplus(alloc: Global, mu: i8, first: i8, pi: i8) -> Result<Price
     Ok(Prices::new(1, mu, orders, slabs))
 }
 
+/// Prices of six orders, each of which is worth 1, and of no surplus slab. Loss costs 1 a unit, a new slab nothing.
+fn prices_of_six(alloc: Global) -> Result<Prices, AllocError>
+    ensures lambda { IfOk result (λ prices. pos 0 ≤ℤ prices.lambda) }
+    ensures pi { IfOk result (λ prices. length prices.pi ≡ 6) }
+    ensures sigma { IfOk result (λ prices. prices.sigma ≡ []) }
+{
+    let orders = vec![in alloc; 1, 1, 1, 1, 1, 1]?;
+    Ok(Prices::new(1, 0, orders, Vec::new(alloc)))
+}
+
 /// What pricing answers.
 fn answer(
     alloc: Global,
@@ -139,6 +163,20 @@ fn prefers_the_surplus_slab_where_it_is_not_barred(rt: HostRuntime) -> Result<()
     assert_eq!(rt; found.kind(), Kind::Old(0));
     assert_eq!(rt; found.orders().len(), 1);
     assert_eq!(rt; found.excess(), 4);
+    Ok(())
+}
+
+#[test]
+fn finds_three_of_six(rt: HostRuntime) -> Result<(), Fail> {
+    let mill = mill_of_six_orders(rt.alloc())?;
+    let decisions = Decisions::new(rt.alloc(), 6, 0)?;
+    let prices = prices_of_six(rt.alloc())?;
+    let Some(found) = answer(rt.alloc(), &mill, &decisions, &prices)? else {
+        return Err(Fail::from("three orders exceed"));
+    };
+    assert_eq!(rt; found.kind(), Kind::New(10));
+    assert_eq!(rt; found.orders().len(), 3);
+    assert_eq!(rt; found.excess(), 2);
     Ok(())
 }
 

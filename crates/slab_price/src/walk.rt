@@ -2,7 +2,7 @@
 ghost use Rattle.std.specs.Prelude.{◌≡◌, ◌+◌, ◌^◌, ◌<◌, ◌≤◌, ℤ, ◌-ℤ◌, unsigned_abs, IfNone, IfSome, length, vec_capacity};
 ghost use Rattle.std.specs.Bool.{OnTrue};
 ghost use Rattle.pricing_laws.specs.Groups.{members};
-ghost use Rattle.slab_price.specs.Bests.{IsImproved};
+ghost use Rattle.slab_price.specs.Bests.{IsImprovedIn};
 ghost use Rattle.pricing_laws.specs.Problems.{ExceedAtMost};
 ghost use Rattle.slab_price.specs.Hunts.{AreTakenIn, AreTakenWith, IsChoiceIn, IsChoiceWith, IsMostIn};
 ghost use Rattle.slab_price.specs.Tasks.{problem_of};
@@ -55,7 +55,7 @@ impl Hunt<'_> {
     fn offer(&self, weight: u32, gain: i128, picks: &mut Picks)
         requires { AreTakenIn self.now 0 picks.old.chosen.items weight gain }
         ensures chosen { picks.new.chosen.items ≡ picks.old.chosen.items }
-        ensures improved { IsImproved (problem_of self.now.search.task) picks.old.best picks.new.best
+        ensures improved { IsImprovedIn self.now.search.task picks.old.best picks.new.best
             (IsChoiceIn self.now picks.old.chosen.items 0) }
     {
         let heads = self.search.frame.groups.heads();
@@ -71,8 +71,10 @@ impl Hunt<'_> {
         requires light { weight < length self.now.search.frame.now.ends.items }
         requires taken { AreTakenIn self.now (at + 1) chosen.now weight gain }
         ensures none { IfNone result ((most : ℤ)
-            → ExceedAtMost (problem_of self.now.search.task) most (IsChoiceWith self.now chosen.now at)) }
-        ensures light { IfSome result (λ sums. sums.0 < length self.now.search.frame.now.ends.items) }
+            → ExceedAtMost (problem_of self.now.search.task) most
+                (IsChoiceWith self.now chosen.now at)) }
+        ensures light { IfSome result (λ sums.
+            sums.0 < length self.now.search.frame.now.ends.items) }
         ensures taken { IfSome result (λ sums. AreTakenWith self.now at chosen.now sums.0 sums.1) }
     {
         let head = self.queue.heads[at];
@@ -92,7 +94,7 @@ impl Hunt<'_> {
         requires light { weight < length self.now.search.frame.now.ends.items }
         requires taken { AreTakenIn self.now left picks.old.chosen.items weight gain }
         ensures chosen { picks.new.chosen.items ≡ picks.old.chosen.items }
-        ensures improved { IsImproved (problem_of self.now.search.task) picks.old.best picks.new.best
+        ensures improved { IsImprovedIn self.now.search.task picks.old.best picks.new.best
             (IsChoiceIn self.now picks.old.chosen.items left) }
     {
         if self.is_hopeless(left, weight, gain, picks.best.excess) {
