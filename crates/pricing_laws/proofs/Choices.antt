@@ -1,13 +1,12 @@
 -- The steps of a walk over the groups of a queue.
-use Rattle.std.proofs.Common.{◌≡◌, ◌⊎◌, inl, inr, ℕ, zero, suc, ◌+◌, ◌*◌, ◌^◌, ◌<◌, ◌≤◌, pos, ◌+ℤ◌, ◌≤ℤ◌, ℤ, true, List, [], ◌∷◌, ◌++◌, length, get_or, refl, sym, subst, ap, ◌∙◌, arith, append_assoc, append-nil}
+use Rattle.std.proofs.Common.{◌≡◌, ◌⊎◌, inl, inr, ℕ, ◌+◌, ◌*◌, ◌^◌, ◌<◌, ◌≤◌, pos, ◌+ℤ◌, ◌≤ℤ◌, ℤ, true, List, [], ◌∷◌, ◌++◌, length, get_or, refl, sym, subst, ap, ◌∙◌, arith, append_assoc, append-nil}
 use Rattle.std.specs.Prelude.{◌-ℤ◌, unsigned_abs}
 use Rattle.std.specs.List.{sum_by}
 use Rattle.std.proofs.lemmas.Int.{ints}
 use Rattle.std.proofs.lemmas.List.{length_push}
-use Rattle.std.proofs.lemmas.List.Sums.{sum_by-append, sum_by-cons, sum_by_push}
-use Rattle.mill_model.specs.declared.kind.Kind.{Kind}
+use Rattle.std.proofs.lemmas.List.Sums.{sum_by-append, sum_by_push}
 use Rattle.mill_model.specs.SignedSums.{total_by}
-use Rattle.mill_model.specs.Columns.{Column, IsInStock, has, load, size_of}
+use Rattle.mill_model.specs.Columns.{Column, has, load}
 use Rattle.mill_model.proofs.Signed.{total_by-append}
 use Rattle.pricing_laws.specs.Bounds.{AreEnds, IsMost}
 use Rattle.pricing_laws.specs.Choices.{AreChosen, IsChoice}
@@ -16,7 +15,7 @@ use Rattle.pricing_laws.specs.Gains.{gains_of, cost_of}
 use Rattle.pricing_laws.specs.Groups.{IsApart, head_of, members}
 use Rattle.pricing_laws.specs.Groupings.{Groups, AreGroups, weight_at, gain_at}
 use Rattle.pricing_laws.specs.Parts.{AreDistinct, IsPart, left_of}
-use Rattle.pricing_laws.specs.Problems.{Problem, IsAllowed, ExceedAtMost, excess}
+use Rattle.pricing_laws.specs.Problems.{Problem, IsAllowed, ExceedAtMost}
 use Rattle.pricing_laws.proofs.Colours.{members_of}
 use Rattle.pricing_laws.proofs.Excesses.{excess_split}
 use Rattle.pricing_laws.proofs.Groups.{has-members}

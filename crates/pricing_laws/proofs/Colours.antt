@@ -1,14 +1,13 @@
 -- Columns of some colours, their groups, and the sets of colours that are gone through.
-use Rattle.std.proofs.Common.{append-nil, append_assoc, get_or, ◌⊎◌, ◌≡◌, ℕ, ℤ, ◌+◌, ◌<◌, ◌≤◌, Bool, true, false, ◌&&◌, ◌||◌, eqb, List, [], ◌∷◌, ◌++◌, map, length, refl, sym, subst, ap, ◌∙◌, inl, inr, arith}
+use Rattle.std.proofs.Common.{append-nil, append_assoc, get_or, ◌⊎◌, ◌≡◌, ℕ, ℤ, ◌+◌, ◌<◌, ◌≤◌, Bool, true, false, ◌&&◌, eqb, List, [], ◌∷◌, ◌++◌, map, length, refl, sym, subst, ap, ◌∙◌, inl, inr, arith}
 use Rattle.std.specs.List.{filter}
-use Rattle.std.proofs.lemmas.Bool.{cases_Bool, eqb-true, or_cases, or_left, or_right, both_ways}
+use Rattle.std.proofs.lemmas.Bool.{eqb-true, or_cases, both_ways}
 use Rattle.mill_model.specs.Mill.{Mill}
 use Rattle.mill_model.specs.Columns.{Column, IsLegalColumn, Rises, has, colours_of, order_at}
-use Rattle.mill_model.specs.Decisions.{Decision, column_agrees}
 use Rattle.mill_model.proofs.Judging.{different_within}
 use Rattle.mill_model.proofs.Rising.{same_members}
 use Rattle.pricing_laws.specs.Groups.{AreHeads, head_of, heads_in, members}
-use Rattle.pricing_laws.specs.Parts.{AreDistinct, IsPart, left_of}
+use Rattle.pricing_laws.specs.Parts.{IsPart, left_of}
 use Rattle.pricing_laws.specs.Colours.{AreOf, AreGroupsOf, IsGroupOf, IsOfSet, colour_at}
 use Rattle.pricing_laws.specs.Choices.{IsChoice}
 use Rattle.pricing_laws.specs.Problems.{Problem, IsAllowed}

@@ -1,5 +1,5 @@
 -- What columns exceed by at most, by the worths of their groups.
-use Rattle.std.proofs.Common.{◌≡◌, ◌⊎◌, inl, inr, ℕ, zero, suc, append-nil, ◌+◌, ◌-◌, ◌*◌, ◌^◌, ◌<◌, ◌≤◌, pos, ◌+ℤ◌, ◌≤ℤ◌, ℤ, true, eqb, List, [], ◌∷◌, ◌++◌, length, get_or, set, refl, sym, subst, ap, ◌∙◌, arith, get_or-set_same, get_or-set_other, length-set, append_assoc}
+use Rattle.std.proofs.Common.{◌≡◌, inl, inr, ℕ, zero, suc, append-nil, ◌+◌, ◌-◌, ◌*◌, ◌^◌, ◌<◌, ◌≤◌, pos, ◌+ℤ◌, ◌≤ℤ◌, ℤ, true, eqb, List, [], ◌∷◌, ◌++◌, length, get_or, set, refl, sym, subst, ap, ◌∙◌, arith, get_or-set_same, get_or-set_other, length-set, append_assoc}
 use Rattle.std.specs.Prelude.{◌-ℤ◌, ◌*ℤ◌, unsigned_abs}
 use Rattle.std.specs.List.{sum_by}
 use Rattle.std.proofs.lemmas.Int.{ints}
@@ -9,7 +9,7 @@ use Rattle.std.proofs.lemmas.List.Sums.{sum_by-cons}
 use Rattle.std.proofs.Math.ListN.{replicate}
 use Rattle.mill_model.specs.Mill.{Mill, IsBetween}
 use Rattle.mill_model.specs.SignedSums.{total_by}
-use Rattle.mill_model.specs.Columns.{Column, Rises, has, load, loss_of}
+use Rattle.mill_model.specs.Columns.{Rises, has, load, loss_of}
 use Rattle.mill_model.specs.Prices.{Prices, charge, price_at}
 use Rattle.mill_model.proofs.Signed.{mul_add, mul_le, mul_le_pos, mul_zero, total_by-append}
 use Rattle.pricing_laws.specs.Colours.{AreOf, IsOfSet, colour_at}
@@ -17,7 +17,7 @@ use Rattle.pricing_laws.specs.Gains.{gains_of}
 use Rattle.pricing_laws.specs.Groups.{heads_in, members}
 use Rattle.pricing_laws.specs.Groupings.{Groups, AreGroups, weight_at, gain_at}
 use Rattle.pricing_laws.specs.Parts.{AreDistinct, IsPart, left_of}
-use Rattle.pricing_laws.specs.Problems.{Problem, IsAllowed, ExceedAtMost, excess}
+use Rattle.pricing_laws.specs.Problems.{Problem, ExceedAtMost, excess}
 use Rattle.pricing_laws.specs.Worths.{AreTaken, AreWorths, IsFloor, IsRanking, worth_at, worth_of}
 use Rattle.pricing_laws.proofs.Colours.{heads_of}
 use Rattle.pricing_laws.proofs.Excesses.{gains_split}

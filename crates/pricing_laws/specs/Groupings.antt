@@ -1,9 +1,7 @@
 -- The orders of a mill in groups that move as one, with what each group weighs and gains.
 use Rattle.std.specs.Prelude.{◌≡◌, ℕ, ◌*◌, ◌^◌, ◌<◌, ◌≤◌, ℤ, pos, unsigned_abs, List, [], ◌∷◌, length, slice_index_or}
-use Rattle.std.specs.List.{sum_by}
 use Rattle.mill_model.specs.Mill.{Mill}
-use Rattle.mill_model.specs.SignedSums.{total_by}
-use Rattle.mill_model.specs.Columns.{Rises, load}
+use Rattle.mill_model.specs.Columns.{load}
 use Rattle.mill_model.specs.Decisions.{Decision}
 use Rattle.pricing_laws.specs.Groups.{AreHeads, members}
 use Rattle.mill_model.specs.Prices.{Prices}

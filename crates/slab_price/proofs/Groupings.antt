@@ -1,14 +1,10 @@
 -- Orders that the decisions put together, and groups that are weighed and priced.
-use Rattle.std.proofs.Common.{◌≡◌, ℕ, ◌*◌, ◌^◌, ◌<◌, ◌≤◌, ℤ, pos, ◌+ℤ◌, ◌*ℤ◌, Bool, true, false, cond, not, ◌&&◌, List, length, get_or, refl, sym, ap, ap₂, ◌∙◌, inl, inr, arith, to_z, of_z, Option, Some, None}
-use Rattle.std.specs.Prelude.{unsigned_abs, IfSome, IfNone}
+use Rattle.std.proofs.Common.{◌≡◌, ℕ, ◌<◌, Bool, true, false, cond, not, ◌&&◌, List, length, get_or, refl, sym, ap, ap₂, ◌∙◌, inl, inr, arith, Option, Some, None}
+use Rattle.std.specs.Prelude.{IfSome, IfNone}
 use Rattle.std.specs.Bool.{beq, OnTrue, OnFalse}
 use Rattle.std.specs.Option.{option_eq}
-use Rattle.std.specs.Int.{w64, w128}
 use Rattle.std.proofs.lemmas.Bool.{cases_lt, both_ways}
-use Rattle.std.proofs.lemmas.Int.{ints, unsigned_abs-mul}
-use Rattle.std.proofs.lemmas.Nat.{mul-le}
 use Rattle.mill_model.specs.declared.ask.Ask.TheVariants.{Pair}
-use Rattle.mill_model.specs.Prices.{IsPrice}
 use Rattle.mill_model.specs.Columns.{has}
 use Rattle.mill_model.specs.Decisions.{Decision}
 use Rattle.mill_model.specs.Assignments.{Follows}

@@ -5,7 +5,7 @@ use Rattle.std.proofs.lemmas.Int.{ints}
 use Rattle.std.proofs.lemmas.List.Elements.{All-contains}
 use Rattle.mill_model.specs.declared.kind.Kind.{Kind}
 use Rattle.mill_model.specs.declared.kind.Kind.TheVariants.{New, Old}
-use Rattle.mill_model.specs.Columns.{Column, IsInStock, IsLegalColumn, has_barred, load, size_of}
+use Rattle.mill_model.specs.Columns.{Column, IsInStock, IsLegalColumn, has_barred, size_of}
 use Rattle.mill_model.specs.Decisions.{column_agrees}
 use Rattle.mill_model.specs.LeastSizes.{IsLeastSize, IsOfLeastSize}
 use Rattle.mill_model.proofs.Bars.{new_bars_none}

@@ -1,4 +1,4 @@
-use Rattle.std.proofs.Common.{◌≡◌, ◌≤◌, length, slice_index}
+use Rattle.std.proofs.Common.{◌≤◌, length, slice_index}
 use Rattle.slab_price.specs.Chains.{IsChainedFrom}
 use Rattle.slab_price.proofs.chains.link.Given as goal
 

@@ -1,4 +1,4 @@
-use Rattle.std.proofs.Common.{rules, ◌≡◌, ◌⊎◌, inl, inr, ℕ, ◌+◌, ◌-◌, ◌*◌, ◌^◌, ◌<◌, ◌≤◌, ℤ, pos, ◌+ℤ◌, List, [], ◌∷◌, ◌++◌, length, get_or, refl, ap, sym, subst, ◌∙◌, arith, to_z, of_z}
+use Rattle.std.proofs.Common.{rules, ◌≡◌, ◌⊎◌, inl, inr, ℕ, ◌-◌, ◌^◌, ◌<◌, ◌≤◌, pos, ◌+ℤ◌, List, [], ◌∷◌, ◌++◌, length, get_or, refl, ap, sym, subst, ◌∙◌, arith, to_z, of_z}
 use Rattle.std.specs.Prelude.{unsigned_abs}
 use Rattle.std.specs.Int.{w128}
 use Rattle.std.proofs.lemmas.Int.{ints}
@@ -9,7 +9,7 @@ use Rattle.pricing_laws.proofs.Parts.{popped}
 use Rattle.slab_price.specs.Bests.{IsImproved}
 use Rattle.slab_price.specs.Searches.{AreRanked, AreTakenFrom, IsOfSetIn}
 use Rattle.slab_price.specs.Tasks.{problem_of}
-use Rattle.slab_price.proofs.Improving.{improved_both, improved_less, improved_same}
+use Rattle.slab_price.proofs.Improving.{improved_both, improved_less}
 use Rattle.slab_price.proofs.Ranks.{next_left, next_taken, rank_inside, set_done, set_next, taken_ranked, taken_worth_small, worth_small}
 use Rattle.slab_price.proofs.search.Search.+search_sets.Goals.{then-rank-eq0-via-then-rank-eq0, then-rank-eq0-via-else-rank-eq0+then-left-eq0}
 use Rattle.slab_price.proofs.search.Search.+search_sets.Goals as goal

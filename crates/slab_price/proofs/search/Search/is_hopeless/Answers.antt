@@ -1,4 +1,4 @@
-use Rattle.std.proofs.Common.{FitsSigned, ◌≡◌, ℕ, ◌*◌, ◌^◌, ◌≤◌, ℤ, pos, ◌+ℤ◌, ◌*ℤ◌, ◌≤ℤ◌, true, List, ◌∙◌, arith, to_z, of_z}
+use Rattle.std.proofs.Common.{FitsSigned, ◌≡◌, ℕ, ◌*◌, ◌^◌, ◌≤◌, ℤ, pos, ◌+ℤ◌, ◌*ℤ◌, ◌≤ℤ◌, true, arith, to_z, of_z}
 use Rattle.std.specs.Prelude.{◌-ℤ◌, unsigned_abs}
 use Rattle.std.specs.Int.{w128}
 use lib.Signed.{le_z}
@@ -9,7 +9,7 @@ use Rattle.pricing_laws.proofs.Numbers.{le_true}
 use Rattle.pricing_laws.specs.Problems.{ExceedAtMost}
 use Rattle.pricing_laws.proofs.Problems.{exceed_weaker}
 use Rattle.pricing_laws.proofs.Worths.{set_bounded}
-use Rattle.slab_price.specs.Searches.{AreTakenFrom, IsOfSetIn}
+use Rattle.slab_price.specs.Searches.{IsOfSetIn}
 use Rattle.slab_price.specs.Tasks.{problem_of}
 use Rattle.slab_price.proofs.search.Search.is_hopeless.Goals as goal
 

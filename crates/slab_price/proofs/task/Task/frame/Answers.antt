@@ -1,10 +1,10 @@
-use Rattle.std.proofs.Common.{◌≡◌, ℕ, ◌+◌, ◌<◌, ℤ, List, length, get_or, sym, subst, ap, ◌∙◌, arith}
+use Rattle.std.proofs.Common.{◌≡◌, ℕ, ◌+◌, ◌<◌, ℤ, List, length, get_or, subst, ap, ◌∙◌, arith}
 use Rattle.mill_model.specs.declared.order.Order.{Order}
 use Rattle.std.proofs.lemmas.Int.{ints}
 use Rattle.pricing_laws.specs.Groups.{head_of}
-use Rattle.pricing_laws.specs.Groupings.{Groups, AreGroups}
+use Rattle.pricing_laws.specs.Groupings.{AreGroups}
 use Rattle.pricing_laws.specs.Worths.{IsRanking}
-use Rattle.slab_price.specs.Frames.{AreChainsOf, IsFrame, colour_key}
+use Rattle.slab_price.specs.Frames.{AreChainsOf, colour_key}
 use Rattle.slab_price.proofs.ChainLemmas.{chains_told}
 use Rattle.slab_price.proofs.task.Task.frame.Goals as goal
 

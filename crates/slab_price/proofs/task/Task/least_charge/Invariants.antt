@@ -1,4 +1,4 @@
-use Rattle.std.proofs.Common.{◌≡◌, ℕ, ◌<◌, ◌≤ℤ◌, pos, length, get_or}
+use Rattle.std.proofs.Common.{ℕ, ◌<◌, ◌≤ℤ◌, pos, get_or}
 use Rattle.mill_model.specs.Prices.{IsPrice}
 use Rattle.slab_price.proofs.task.Task.least_charge.Given as goal
 
