@@ -3,6 +3,7 @@
 #![tactic(auto)]
 
 ghost use Rattle.std.specs.Prelude.{◌≡◌, ◌≤◌, [], length};
+ghost use Rattle.mill_model.specs.Mill.{IsBetween};
 
 mod allowing;
 mod deciding;
@@ -15,15 +16,20 @@ mod paths;
 mod pooling;
 mod pricing;
 mod random;
+mod replaying;
+mod told;
 mod words;
 
-use crate::mills::read_mill;
-use crate::words::{MillPart, MillWork, Part, Work, read_mill_work, read_work};
+use crate::mills::{read_mill, read_mill_with_yard};
+use crate::told::Told;
+use crate::words::{
+    MillPart, MillWork, Part, ReplayWork, Work, read_mill_work, read_replay_work, read_work,
+};
 use mill_model::Mill;
 use std::env::{self, Env};
-use std::io;
 use std::process::ExitCode;
 use std::rt::Files;
+use std::{fs, io};
 
 fn main(rt: HostRuntime) -> ExitCode {
     match run(&rt) {
@@ -46,10 +52,14 @@ fn run<R: Env + Files + AllocGlobal + Print>(rt: &R) -> io::Result<bool> {
     if let Some(work) = read_mill_work(&words) {
         return run_on_mill(rt, &work);
     }
+    if let Some(work) = read_replay_work(&words) {
+        return run_replay(rt, &work);
+    }
     println!(rt; "usage: bench_parts master|lines|leaves SIZE COUNT TIMES SEED")?;
     println!(rt;
         "       bench_parts price|price_none|pair|follows|allows|pool|leaf|leaf_none FILE TIMES SEED"
     )?;
+    println!(rt; "       bench_parts replay|redecide CALLS ORDERS YARD COLOURS TIMES")?;
     Ok(false)
 }
 
@@ -155,4 +165,18 @@ fn run_leaf<R: AllocGlobal + Print>(rt: &R, mill: &Mill, work: &MillWork<'_>) ->
         "refute {} column {} other {}",
         done.refute, done.column, done.other
     )
+}
+
+// Makes calls that a file tells; false where the other files have no mill.
+fn run_replay<R: Files + AllocGlobal + Print>(rt: &R, work: &ReplayWork<'_>) -> io::Result<bool>
+    requires { IsBetween 1 3 work.now.colours }
+{
+    let Some(mill) = read_mill_with_yard(rt, work.orders, work.yard, work.colours)? else {
+        println!(rt; "no mill")?;
+        return Ok(false);
+    };
+    let mut told = Told::read(rt.alloc(), &fs::read_to_string(rt, work.calls)?)?;
+    let done = replaying::replay_calls(rt.alloc(), &mill, &mut told, work)?;
+    println!(rt; "same {} other {}", done.same, done.other)?;
+    Ok(true)
 }

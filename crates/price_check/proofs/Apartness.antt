@@ -7,7 +7,7 @@ use Rattle.price_check.proofs.Reversed.{list_all-reverse}
 use Rattle.mill_model.specs.declared.ask.Ask.TheVariants.{Pair}
 use Rattle.mill_model.specs.Columns.{Column, has}
 use Rattle.mill_model.specs.Decisions.{Decision, agrees, column_agrees}
-use Rattle.mill_model.specs.Groups.{head_of, AreHeads}
+use Rattle.pricing_laws.specs.Groups.{head_of, AreHeads}
 use Rattle.price_check.specs.Apartness.{mark_at, AreApart}
 
 -- the place of a mark is one of the list

@@ -9,7 +9,7 @@ use Rattle.mill_model.specs.declared.order.Order.{Order}
 use Rattle.mill_model.specs.Mill.{Mill, IsInLimits, IsBetween}
 use Rattle.mill_model.specs.SignedSums.{total_by}
 use Rattle.mill_model.specs.Columns.{order_at, Rises}
-use Rattle.mill_model.specs.Groupings.{Groups, gain_at}
+use Rattle.pricing_laws.specs.Groupings.{Groups, gain_at}
 use Rattle.price_check.specs.Search.{IsOf, AreFrom}
 use Rattle.price_check.specs.Bounds.{cell_at, both_at, ArePlusFrom}
 

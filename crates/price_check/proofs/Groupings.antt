@@ -6,8 +6,8 @@ use Rattle.std.proofs.lemmas.List.Edits.{map_over_more}
 use Rattle.mill_model.specs.declared.ask.Ask.TheVariants.{Pair}
 use Rattle.mill_model.specs.Columns.{Column, has}
 use Rattle.mill_model.specs.Decisions.{Decision, agrees, column_agrees}
-use Rattle.mill_model.specs.Groups.{head_of, AreHeads}
-use Rattle.mill_model.proofs.Groups.{heads_stay, heads_renamed}
+use Rattle.pricing_laws.specs.Groups.{head_of, AreHeads}
+use Rattle.pricing_laws.proofs.Groups.{heads_stay, heads_renamed}
 use Rattle.price_check.specs.Groupings.{renamed}
 
 -- ---- one head in the place of another, order by order

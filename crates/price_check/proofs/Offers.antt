@@ -10,7 +10,7 @@ use Rattle.mill_model.specs.Columns.{load, size_of, IsInStock}
 use Rattle.mill_model.specs.Decisions.{Decision, column_agrees}
 use Rattle.mill_model.specs.Prices.{Prices}
 use Rattle.mill_model.proofs.Sizes.{column_agrees_any_size, priced_larger}
-use Rattle.mill_model.specs.Gains.{gains_of, cost_of}
+use Rattle.pricing_laws.specs.Gains.{gains_of, cost_of}
 use Rattle.mill_model.specs.LeastSizes.{IsLeastSize, IsOfLeastSize}
 use Rattle.price_check.specs.Exceeding.{IsExceeding}
 use Rattle.price_check.specs.Search.{AreChosen, IsPricedOn}

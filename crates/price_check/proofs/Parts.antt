@@ -3,7 +3,7 @@ use Rattle.std.proofs.Common.{◌≡◌, ℕ, zero, suc, ◌+◌, ◌<◌, ◌�
 use Rattle.std.specs.List.{AllByRecursion}
 use Rattle.std.proofs.lemmas.Bool.{cases_eq, cases_lt, or_cases, or_left, or_right, cond_both, eq-eqb, eqb-true, both_ways}
 use Rattle.mill_model.specs.Columns.{Rises, has}
-use Rattle.mill_model.specs.Groups.{members_from}
+use Rattle.pricing_laws.specs.Groups.{members_from}
 use Rattle.mill_model.proofs.Duality.{not_has}
 use Rattle.mill_model.proofs.Slabs.{Rises-lower}
 use Rattle.price_check.specs.Parts.{IsPart}

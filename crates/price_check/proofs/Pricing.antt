@@ -11,7 +11,7 @@ use Rattle.mill_model.specs.SignedSums.{total_by}
 use Rattle.mill_model.specs.Columns.{Column, order_at, load, size_of}
 use Rattle.mill_model.specs.Prices.{Prices, IsPrice, ArePrices, IsPriced, price_at}
 use Rattle.mill_model.proofs.Signed.{mul_add, total_by-add, total_by-scale, total_by-pos}
-use Rattle.mill_model.specs.Gains.{gain_of, gains_of, cost_of}
+use Rattle.pricing_laws.specs.Gains.{gain_of, gains_of, cost_of}
 use Rattle.price_check.proofs.Sums.{multiple_bound}
 
 gains_split : (m : Mill) (p : Prices) (orders : List ℕ) → gains_of m p orders ≡ total_by (price_at p.pi) orders +ℤ p.lambda *ℤ pos (load m orders)

@@ -9,13 +9,13 @@ use Rattle.mill_model.specs.Mill.{Mill}
 use Rattle.mill_model.specs.SignedSums.{total_by}
 use Rattle.mill_model.specs.Columns.{Rises, has}
 use Rattle.mill_model.specs.Decisions.{Decision, column_agrees}
-use Rattle.mill_model.specs.Groups.{head_of, members, heads_in}
+use Rattle.pricing_laws.specs.Groups.{head_of, members, heads_in}
 use Rattle.mill_model.specs.Prices.{Prices}
 use Rattle.mill_model.proofs.Judging.{has-append}
 use Rattle.mill_model.proofs.Rising.{Rises-push}
-use Rattle.mill_model.proofs.Groups.{heads_in_rise, has-heads_in, whole_groups, members_from-push, members_rise}
-use Rattle.mill_model.specs.Gains.{gains_of}
-use Rattle.mill_model.specs.Groupings.{Groups, AreGroups, gain_at}
+use Rattle.pricing_laws.proofs.Groups.{heads_in_rise, has-heads_in, whole_groups, members_from-push, members_rise}
+use Rattle.pricing_laws.specs.Gains.{gains_of}
+use Rattle.pricing_laws.specs.Groupings.{Groups, AreGroups, gain_at}
 use Rattle.price_check.specs.Parts.{IsPart}
 use Rattle.price_check.specs.Search.{IsOf, IsGroupOf, AreFrom, IsQueueTo, IsQueue, IsClear, IsClearOf, IsPricedOn, AreEnds}
 use Rattle.price_check.specs.Bounds.{both_at, ArePlusFrom}

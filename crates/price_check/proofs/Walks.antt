@@ -12,13 +12,13 @@ use Rattle.mill_model.specs.Mill.{Mill}
 use Rattle.mill_model.specs.SignedSums.{total_by}
 use Rattle.mill_model.specs.Columns.{order_at, load, size_of, IsInStock, IsLegalColumn, Rises, has, colours_of}
 use Rattle.mill_model.specs.Decisions.{Decision, column_agrees}
-use Rattle.mill_model.specs.Groups.{members}
+use Rattle.pricing_laws.specs.Groups.{members}
 use Rattle.mill_model.specs.Prices.{Prices}
 use Rattle.mill_model.proofs.Judging.{different_within, has-append}
 use Rattle.mill_model.proofs.Signed.{total_by-append}
-use Rattle.mill_model.proofs.Groups.{members_rise, has-members}
-use Rattle.mill_model.specs.Gains.{gains_of}
-use Rattle.mill_model.specs.Groupings.{Groups, AreGroups, weight_at, gain_at}
+use Rattle.pricing_laws.proofs.Groups.{members_rise, has-members}
+use Rattle.pricing_laws.specs.Gains.{gains_of}
+use Rattle.pricing_laws.specs.Groupings.{Groups, AreGroups, weight_at, gain_at}
 use Rattle.price_check.specs.Parts.{IsPart}
 use Rattle.price_check.specs.Search.{IsOf, IsQueue, IsClear, AreTaken, AreChosen, IsPricedOn}
 use Rattle.price_check.specs.Apartness.{AreApart, IsApart}

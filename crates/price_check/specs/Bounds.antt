@@ -6,8 +6,8 @@ use Rattle.mill_model.specs.Mill.{Mill}
 use Rattle.mill_model.specs.SignedSums.{total_by}
 use Rattle.mill_model.specs.Columns.{IsInStock, size_of}
 use Rattle.mill_model.specs.Prices.{Prices}
-use Rattle.mill_model.specs.Gains.{cost_of}
-use Rattle.mill_model.specs.Groupings.{Groups, weight_at, gain_at}
+use Rattle.pricing_laws.specs.Gains.{cost_of}
+use Rattle.pricing_laws.specs.Groupings.{Groups, weight_at, gain_at}
 use Rattle.price_check.specs.Parts.{IsPart}
 use Rattle.price_check.specs.Search.{AreFrom}
 

@@ -5,7 +5,7 @@ use Rattle.mill_model.specs.declared.kind.Kind.{Kind}
 use Rattle.mill_model.specs.Columns.{IsInStock, size_of}
 use Rattle.price_check.specs.declared.walk.Hunt.{Hunt}
 use Rattle.price_check.specs.declared.pair.Leaf.{Leaf}
-use Rattle.mill_model.specs.Groupings.{AreGroups}
+use Rattle.pricing_laws.specs.Groupings.{AreGroups}
 use Rattle.price_check.specs.Apartness.{AreApart}
 use Rattle.price_check.specs.Search.{AreSet, AreEnds, IsQueue}
 use Rattle.price_check.specs.Bounds.{ArePaid, ArePlusFrom, AreBounds}

@@ -6,10 +6,10 @@ use Rattle.mill_model.specs.Mill.{Mill}
 use Rattle.mill_model.specs.SignedSums.{total_by}
 use Rattle.mill_model.specs.Columns.{order_at, IsInStock, size_of, IsLegalColumn, Rises, has, load}
 use Rattle.mill_model.specs.Decisions.{Decision, column_agrees}
-use Rattle.mill_model.specs.Groups.{head_of, members}
+use Rattle.pricing_laws.specs.Groups.{head_of, members}
 use Rattle.mill_model.specs.Prices.{Prices, IsPriced}
-use Rattle.mill_model.specs.Gains.{gains_of, cost_of}
-use Rattle.mill_model.specs.Groupings.{Groups, weight_at, gain_at}
+use Rattle.pricing_laws.specs.Gains.{gains_of, cost_of}
+use Rattle.pricing_laws.specs.Groupings.{Groups, weight_at, gain_at}
 use Rattle.price_check.specs.Parts.{IsPart}
 
 -- the order is of one of two colours

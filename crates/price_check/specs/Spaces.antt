@@ -3,7 +3,7 @@ use Rattle.std.specs.Prelude.{◌≡◌, ℕ, ◌+◌, ◌*◌, ◌≤◌, lengt
 use Rattle.std.specs.Vec.{vec_capacity}
 use Rattle.price_check.specs.declared.pair.PairSpace.{PairSpace}
 use Rattle.price_check.specs.declared.search.Workspace.{Workspace}
-use Rattle.mill_model.specs.Groupings.{HasRoom}
+use Rattle.pricing_laws.specs.Groupings.{HasRoom}
 
 -- for the groups of two colours, for those that are chosen, and for a bound at each place and at the end
 pub record HasPairRoom (orders : ℕ) (s : PairSpace) : Type 0 where

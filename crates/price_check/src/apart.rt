@@ -3,8 +3,8 @@ ghost use Rattle.std.specs.Prelude.{◌≡◌, ◌*◌, ◌≤◌, List, true, f
 ghost use Rattle.mill_model.specs.declared.ask.Ask.{Ask};
 ghost use Rattle.mill_model.specs.Columns.{Column};
 ghost use Rattle.mill_model.specs.Decisions.{Decision, agrees, column_agrees};
-ghost use Rattle.mill_model.specs.Groups.{AreHeads};
-ghost use Rattle.mill_model.specs.Groupings.{AreBefore};
+ghost use Rattle.pricing_laws.specs.Groups.{AreHeads};
+ghost use Rattle.pricing_laws.specs.Groupings.{AreBefore};
 ghost use Rattle.price_check.specs.Apartness.{AreApart};
 
 use crate::trail::Trail;

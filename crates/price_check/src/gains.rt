@@ -2,7 +2,7 @@
 ghost use Rattle.std.specs.Prelude.{◌≡◌, ◌<◌, ◌≤◌, ◌^◌, ℤ, pos, ◌+ℤ◌, ◌*ℤ◌, unsigned_abs, length};
 ghost use Rattle.mill_model.specs.Columns.{IsInStock};
 ghost use Rattle.mill_model.specs.Prices.{IsPrice};
-ghost use Rattle.mill_model.specs.Gains.{gain_of, cost_of};
+ghost use Rattle.pricing_laws.specs.Gains.{gain_of, cost_of};
 
 use crate::quote::Quote;
 use mill_model::{Kind, Mill};

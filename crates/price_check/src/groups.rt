@@ -1,8 +1,8 @@
 //! Orders in the groups that the decisions join.
 ghost use Rattle.std.specs.Prelude.{◌≡◌, ◌*◌, ◌<◌, ◌≤◌, [], ◌∷◌, List, true, IfOk, length, reverse};
 ghost use Rattle.mill_model.specs.Decisions.{Decision};
-ghost use Rattle.mill_model.specs.Groups.{AreHeads};
-ghost use Rattle.mill_model.specs.Groupings.{HasRoom, AreBefore, AreWeights, AreGains, AreGroups, weight_at, gain_at};
+ghost use Rattle.pricing_laws.specs.Groups.{AreHeads};
+ghost use Rattle.pricing_laws.specs.Groupings.{HasRoom, AreBefore, AreWeights, AreGains, AreGroups, weight_at, gain_at};
 ghost use Rattle.price_check.specs.Groupings.{renamed};
 
 use crate::gains::gain_of;
@@ -21,7 +21,7 @@ pub(crate) struct Groups {
 }
 
 impl Model for Groups {
-    ghost use Rattle.mill_model.specs.Groupings.{Groups};
+    ghost use Rattle.pricing_laws.specs.Groupings.{Groups};
 
     ghost Value = { Groups };
 

@@ -2,7 +2,7 @@
 ghost use Rattle.std.specs.Prelude.{◌≡◌, ◌+◌, ◌<◌, ◌≤◌, ◌^◌, ℕ, pos, ◌+ℤ◌, ◌≤ℤ◌, unsigned_abs, length, Contains};
 ghost use Rattle.mill_model.specs.declared.kind.Kind.{Kind};
 ghost use Rattle.mill_model.specs.Columns.{IsInStock, size_of};
-ghost use Rattle.mill_model.specs.Gains.{cost_of};
+ghost use Rattle.pricing_laws.specs.Gains.{cost_of};
 ghost use Rattle.price_check.specs.Bounds.{ArePaid};
 
 use crate::gains::{cost_of_new, cost_of_old};

@@ -1,6 +1,6 @@
 //! What the groups of each colour gain together, without those that lose.
 ghost use Rattle.std.specs.Prelude.{◌≡◌, ◌≤◌, ◌<◌, ◌^◌, ℕ, unsigned_abs, length};
-ghost use Rattle.mill_model.specs.Groupings.{HasRoom, gain_at};
+ghost use Rattle.pricing_laws.specs.Groupings.{HasRoom, gain_at};
 ghost use Rattle.price_check.specs.Bounds.{ArePlusFrom, cell_at, both_at};
 
 use crate::groups::Groups;

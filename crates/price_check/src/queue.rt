@@ -1,6 +1,6 @@
 //! The groups all of whose orders are of two colours.
 ghost use Rattle.std.specs.Prelude.{◌≡◌, ◌≤◌, ◌<◌, ◌↔◌, IsTrue, length, vec_capacity};
-ghost use Rattle.mill_model.specs.Groups.{head_of};
+ghost use Rattle.pricing_laws.specs.Groups.{head_of};
 ghost use Rattle.price_check.specs.Search.{IsOf, IsGroupOf, IsQueue};
 
 use mill_model::Mill;

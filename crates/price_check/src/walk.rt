@@ -2,8 +2,8 @@
 ghost use Rattle.std.specs.Prelude.{◌≡◌, ◌+◌, ◌*◌, ◌/◌, ◌^◌, ◌<◌, ◌≤◌, ◌⊎◌, ℕ, ℤ, pos, ◌+ℤ◌, ◌≤ℤ◌, unsigned_abs, IfNone, IfSome, length, drop, slice_index_or, vec_capacity};
 ghost use Rattle.std.specs.Bool.{OnTrue, OnFalse};
 ghost use Rattle.mill_model.specs.Columns.{Rises};
-ghost use Rattle.mill_model.specs.Groups.{members};
-ghost use Rattle.mill_model.specs.Groupings.{weight_at, gain_at};
+ghost use Rattle.pricing_laws.specs.Groups.{members};
+ghost use Rattle.pricing_laws.specs.Groupings.{weight_at, gain_at};
 ghost use Rattle.price_check.specs.Exceeding.{IsExceeding};
 ghost use Rattle.price_check.specs.Search.{AreTaken, AreChosen, IsClear, IsPricedOn};
 ghost use Rattle.price_check.specs.Apartness.{IsApart};

@@ -1,22 +1,19 @@
 -- Orders that the decisions put together, and groups that are weighed and priced.
-use Rattle.std.proofs.Common.{◌≡◌, ℕ, ◌*◌, ◌^◌, ◌<◌, ◌≤◌, ℤ, pos, ◌+ℤ◌, ◌*ℤ◌, Bool, true, false, cond, not, ◌&&◌, List, length, get_or, refl, sym, ap, ap₂, ◌∙◌, inl, inr, arith, to_z, of_z, Option, Some, None}
-use Rattle.std.specs.Prelude.{unsigned_abs, IfSome, IfNone}
+use Rattle.std.proofs.Common.{◌≡◌, ℕ, ◌<◌, Bool, true, false, cond, not, ◌&&◌, List, length, get_or, refl, sym, ap, ap₂, ◌∙◌, inl, inr, arith, Option, Some, None}
+use Rattle.std.specs.Prelude.{IfSome, IfNone}
 use Rattle.std.specs.Bool.{beq, OnTrue, OnFalse}
 use Rattle.std.specs.Option.{option_eq}
-use Rattle.std.specs.Int.{w64, w128}
 use Rattle.std.proofs.lemmas.Bool.{cases_lt, both_ways}
-use Rattle.std.proofs.lemmas.Int.{ints, unsigned_abs-mul}
-use Rattle.std.proofs.lemmas.Nat.{mul-le}
 use Rattle.mill_model.specs.declared.ask.Ask.TheVariants.{Pair}
-use Rattle.mill_model.specs.Prices.{IsPrice}
 use Rattle.mill_model.specs.Columns.{has}
 use Rattle.mill_model.specs.Decisions.{Decision}
 use Rattle.mill_model.specs.Assignments.{Follows}
-use Rattle.mill_model.specs.Groups.{head_of, AreHeads}
+use Rattle.pricing_laws.specs.Groups.{head_of, AreHeads}
 use Rattle.mill_model.proofs.Closing.{same_group-true, same_group_from}
 use Rattle.mill_model.proofs.Agreement.{column_follows}
 use Rattle.slab_decide.specs.Decided.{AreConsistent, IsOpen}
-use Rattle.slab_price.specs.Groupings.{AreAlike, AreApart, IsHead}
+use Rattle.pricing_laws.specs.Groups.{AreApart}
+use Rattle.slab_price.specs.Groupings.{AreAlike, IsHead}
 
 -- ---- orders that lie together
 
@@ -62,29 +59,3 @@ heads_found decisions heads are = record { before = λ o h. (are o h).before; fi
         | inl lower ↦ absurd ((are o h).least (head_of heads (head_of heads o)) lower (together_across decisions (head_of heads (head_of heads o)) (head_of heads o) o ((are (head_of heads o) (omega (arith, less))).together lower) ((are o h).together less)))
       ]
     ]
-
--- ---- what an order gains
-
-price_small : (z : ℤ) → IsPrice z → unsigned_abs z ≤ 2 ^ 62
-price_small z h = omega (arith, ints, h.0, h.1)
-
-multiple_small : (each : ℤ) (amount : ℕ) → IsPrice each → amount ≤ 10000 → unsigned_abs (each *ℤ pos amount) ≤ 2 ^ 62 * 10000
-multiple_small each amount h le = omega (arith, unsigned_abs-mul each (pos amount), mul-le (unsigned_abs each) amount (2 ^ 62) 10000 (price_small each h) le)
-
--- a price and a multiple of another, as they were computed
-pub multiple_back : (price each : ℤ) (amount : ℕ) (x y z : ℤ) → IsPrice price → IsPrice each → amount ≤ 10000 → x ≡ to_z w64 (of_z w64 each) → y ≡ pos amount → z ≡ to_z w64 (of_z w64 price)
-    → to_z w128 (of_z w128 (to_z w128 (of_z w128 z) +ℤ to_z w128 (of_z w128 (to_z w128 (of_z w128 x) *ℤ to_z w128 (of_z w128 y))))) ≡ price +ℤ each *ℤ pos amount
-multiple_back price each amount x y z p q le e f g =
-    let each_small : unsigned_abs each ≤ 2 ^ 62 = price_small each q in
-    let own_small : unsigned_abs price ≤ 2 ^ 62 = price_small price p in
-    let a : to_z w128 (of_z w128 x) ≡ each = omega (arith, ints) in
-    let b : to_z w128 (of_z w128 y) ≡ pos amount = omega (arith, ints) in
-    let d : to_z w128 (of_z w128 z) ≡ price = omega (arith, ints) in
-    rw (a, b, d) (omega (arith, ints, multiple_small each amount q le))
-
-pub multiple_bound : (price each : ℤ) (amount : ℕ) → IsPrice price → IsPrice each → amount ≤ 10000 → unsigned_abs (price +ℤ each *ℤ pos amount) ≤ 2 ^ 76
-multiple_bound price each amount p q le = omega (arith, ints, multiple_small each amount q le, price_small price p)
-
--- a sum as it was computed
-pub entry_back : (x y : ℤ) → unsigned_abs x ≤ 2 ^ 84 → unsigned_abs y ≤ 2 ^ 76 → to_z w128 (of_z w128 (to_z w128 (of_z w128 x) +ℤ to_z w128 (of_z w128 y))) ≡ x +ℤ y
-entry_back x y a b = omega (arith, ints)

@@ -1,12 +1,7 @@
 pub mod Groupings
-pub mod Excesses
-pub mod Numbers
-pub mod Parts
-pub mod Gathering
-pub mod Sums
-pub mod Tables
-pub mod Colours
+pub mod ChainLemmas
+pub mod Improving
 pub mod Packs
-pub mod Walks
-pub mod Queues
-pub mod ColourPairs
+pub mod Hunting
+pub mod Gathering
+pub mod Ranks

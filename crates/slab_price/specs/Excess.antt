@@ -1,17 +1,13 @@
--- How far a column's worth exceeds its price, and the column of greatest excess.
-use Rattle.std.specs.Prelude.{◌≡◌, ℕ, ℤ, pos, ◌-ℤ◌, ◌*ℤ◌, ◌≤ℤ◌, ◌<ℤ◌, true, List, length}
-use Rattle.mill_model.specs.Mill.{Mill}
-use Rattle.mill_model.specs.SignedSums.{total_by}
-use Rattle.mill_model.specs.Columns.{Column, IsLegalColumn, load, loss_of}
-use Rattle.mill_model.specs.Prices.{Prices, price_at, charge}
+-- The column that exceeds most.
+use Rattle.std.specs.Prelude.{◌≡◌, ℕ, ℤ, pos, ◌≤ℤ◌, ◌<ℤ◌, true, List, length}
+use Rattle.mill_model.specs.Mill.{Mill, IsInLimits}
+use Rattle.mill_model.specs.Columns.{Column, IsLegalColumn, load}
+use Rattle.mill_model.specs.Prices.{Prices}
 use Rattle.mill_model.specs.Decisions.{Decision, column_agrees}
 use Rattle.mill_model.specs.LeastSizes.{IsOfLeastSize}
 use Rattle.slab_decide.specs.Decided.{Decisions}
+use Rattle.pricing_laws.specs.Problems.{excess}
 use Rattle.slab_price.specs.Found.{Found}
-
--- what the orders are worth, less the price of the loss and the charge of the slab: the reduced cost with its sign turned
-abbrev pub excess : Mill → Prices → Column → ℤ
-excess m p c = (total_by (price_at p.pi) c.orders -ℤ p.lambda *ℤ pos (loss_of m c)) -ℤ charge p c.kind
 
 -- each legal column that agrees with the decisions has an excess of at most this
 abbrev pub IsGreatest : Mill → List Decision → Prices → ℤ → Type 0
@@ -40,3 +36,9 @@ pub record BelongTogether (m : Mill) (listed : List ℕ) (decisions : Decisions)
   pub yard : decisions.yard ≡ length m.yard
   pub pi : length p.pi ≡ length m.orders
   pub sigma : length p.sigma ≡ length m.yard
+
+-- and loss costs something or nothing
+pub record IsAsked (m : Mill) (listed : List ℕ) (decisions : Decisions) (p : Prices) : Type 0 where
+  pub limits : IsInLimits m
+  pub together : BelongTogether m listed decisions p
+  pub sign : pos 0 ≤ℤ p.lambda

@@ -15,11 +15,3 @@ pub record IsHead (decisions : List Decision) (order head : ℕ) : Type 0 where
   pub together : head < order → Follows decisions (Pair head order) true
   pub least : (earlier : ℕ) → earlier < head → Follows decisions (Pair earlier order) true → ⊥
   pub alike : AreAlike decisions order head
-
--- no column that agrees has both orders
-abbrev pub AreApart : List Decision → ℕ → ℕ → Type 0
-AreApart decisions first second = (c : Column) → column_agrees decisions c ≡ true → has c.orders first ≡ true → has c.orders second ≡ true → ⊥
-
--- an order is apart from one of some others
-abbrev pub IsApart : List Decision → List ℕ → ℕ → Type 0
-IsApart decisions others order = (other : ℕ) × (has others other ≡ true) × AreApart decisions other order

@@ -2,9 +2,8 @@
 ghost use Rattle.std.specs.Prelude.{◌≡◌, ◌+◌, ◌^◌, ◌<◌, ◌≤◌, ℕ, pos, ◌-ℤ◌, ◌≤ℤ◌, unsigned_abs, All, IfOk, length};
 ghost use Rattle.mill_model.specs.declared.kind.Kind.{Kind};
 ghost use Rattle.mill_model.specs.Columns.{IsInStock, size_of};
-ghost use Rattle.slab_price.specs.Bounds.{AreEnds};
-ghost use Rattle.mill_model.specs.Gains.{cost_of};
-ghost use Rattle.slab_price.specs.Searches.{IsTask};
+ghost use Rattle.pricing_laws.specs.Bounds.{AreEnds};
+ghost use Rattle.slab_price.specs.Tasks.{IsEndOf};
 
 use crate::task::Task;
 use mill_model::Kind;
@@ -31,7 +30,8 @@ fn greatest(sizes: &[u16], first: u16) -> u16
 impl Task<'_> {
     /// At least the size of each slab.
     fn room(&self) -> u16
-        ensures most { (kind : Kind) → IsInStock self.now.mill.now kind → size_of self.now.mill.now kind ≤ result }
+        ensures most { (kind : Kind) → IsInStock self.now.mill.now kind
+            → size_of self.now.mill.now kind ≤ result }
         ensures within { result ≤ 10000 }
     {
         greatest(self.mill.yard(), greatest(self.mill.sizes(), 0))
@@ -39,8 +39,7 @@ impl Task<'_> {
 
     /// What a new slab that holds the load costs at least, with its sign turned.
     fn end_of_new(&self, load: u32) -> i128
-        requires task { IsTask self.now.mill.now self.now.table.now self.now.decisions.now self.now.prices.now }
-        ensures most { (size : ℕ) → IsInStock self.now.mill.now (Kind.New size) → load ≤ size → (pos 0 -ℤ cost_of self.now.mill.now self.now.prices.now (Kind.New size)) ≤ℤ result }
+        ensures most { (size : ℕ) → IsEndOf self.now load (Kind.New size) result }
         ensures small { unsigned_abs result ≤ 2 ^ 90 }
     {
         match self.table.size_for(load) {
@@ -51,10 +50,9 @@ impl Task<'_> {
 
     /// The cost of a surplus slab, with its sign turned, where it holds the load and costs less than what was found before.
     fn end_of_old(&self, load: u32, slab: u16, before: i128) -> i128
-        requires task { IsTask self.now.mill.now self.now.table.now self.now.decisions.now self.now.prices.now }
         requires stock { slab < length self.now.mill.now.yard }
         requires small { unsigned_abs before ≤ 2 ^ 90 }
-        ensures most { load ≤ size_of self.now.mill.now (Kind.Old slab) → (pos 0 -ℤ cost_of self.now.mill.now self.now.prices.now (Kind.Old slab)) ≤ℤ result }
+        ensures most { IsEndOf self.now load (Kind.Old slab) result }
         ensures grows { before ≤ℤ result }
         ensures small { unsigned_abs result ≤ 2 ^ 90 }
     {
@@ -66,8 +64,7 @@ impl Task<'_> {
 
     /// What a slab that holds the load costs at least, with its sign turned.
     fn end(&self, load: u32) -> i128
-        requires task { IsTask self.now.mill.now self.now.table.now self.now.decisions.now self.now.prices.now }
-        ensures most { (kind : Kind) → IsInStock self.now.mill.now kind → load ≤ size_of self.now.mill.now kind → (pos 0 -ℤ cost_of self.now.mill.now self.now.prices.now kind) ≤ℤ result }
+        ensures most { (kind : Kind) → IsEndOf self.now load kind result }
         ensures small { unsigned_abs result ≤ 2 ^ 90 }
     {
         let mut end = self.end_of_new(load);
@@ -80,7 +77,6 @@ impl Task<'_> {
 
     /// For each load up to the greatest size what a slab that holds it costs at least, with its sign turned.
     pub(crate) fn ends(&self, alloc: Global) -> Result<Vec<i128>, AllocError>
-        requires task { IsTask self.now.mill.now self.now.table.now self.now.decisions.now self.now.prices.now }
         ensures { IfOk result (λ ends. AreEnds self.now.mill.now self.now.prices.now ends.items) }
     {
         let room = u32::from(self.room());

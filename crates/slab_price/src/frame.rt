@@ -1,48 +1,68 @@
 //! What stands through a call of pricing.
-ghost use Rattle.std.specs.Prelude.{◌≡◌, ◌<◌, ◌≤◌, ◌^◌, ℕ, pos, IfOk, length, slice_index_or, unsigned_abs};
-ghost use Rattle.slab_price.specs.Bounds.{IsFrame, plus_of};
-ghost use Rattle.slab_price.specs.Searches.{IsTask};
+ghost use Rattle.std.specs.Prelude.{◌≡◌, ◌+◌, IfOk, length};
+ghost use Rattle.slab_price.specs.Frames.{AreColourKeys, IsFrame};
 
+use crate::chains::Chains;
 use crate::groups::Groups;
 use crate::task::Task;
 use std::alloc::{AllocError, Global};
 
-/// What stands through a call: the groups, for each load what a slab that holds it costs at least (with its sign turned), and for
-/// each colour what the groups gain at most whose head has it.
+/// What stands through a call of pricing.
 #[derive(Drop)]
 pub(crate) struct Frame {
     pub groups: Groups,
+    /// The heads by their colours.
+    pub by_colour: Chains,
+    /// The orders by their heads.
+    pub by_head: Chains,
+    /// For each load what a slab that holds it costs at least, with its sign turned.
     pub ends: Vec<i128>,
-    pub plus: Vec<i128>,
-}
-
-impl Frame {
-    /// What groups of two colours gain at most.
-    pub(crate) fn most(&self, first: u16, second: u16) -> i128
-        requires first { first < length self.now.plus.items }
-        requires second { second < length self.now.plus.items }
-        requires small { (colour : ℕ) → colour < length self.now.plus.items → unsigned_abs (slice_index_or self.now.plus.items colour (pos 0)) ≤ 2 ^ 100 }
-        ensures most { result ≡ plus_of self.now.plus.items first second }
-        ensures small { unsigned_abs result ≤ 2 ^ 101 }
-    {
-        let most = self.plus[first as usize];
-        if first == second {
-            return most;
-        }
-        most + self.plus[second as usize]
-    }
+    /// For each colour what the groups are worth at most whose head has it.
+    pub worths: Vec<i128>,
+    /// The colours that orders have, those of greatest worth last.
+    pub ranking: Vec<u16>,
+    /// No slab charges less.
+    pub floor: i128,
 }
 
 impl Task<'_> {
+    /// For each head its colour, and 0 for other orders.
+    fn colour_keys(&self, alloc: Global, heads: &[u16]) -> Result<Vec<u16>, AllocError>
+        requires { length heads.now ≡ length self.now.mill.now.orders }
+        ensures size { IfOk result (λ keys. length keys.items ≡ length heads.now) }
+        ensures keys { IfOk result (λ keys. AreColourKeys self.now.mill.now heads.now keys.items) }
+    {
+        let mut keys = Vec::with_capacity(alloc, heads.len())?;
+        for (order, head) in heads.iter().enumerate() {
+            if usize::from(*head) == order {
+                keys.push(self.mill.orders()[order].colour)?;
+            } else {
+                keys.push(0)?;
+            }
+        }
+        Ok(keys)
+    }
+
     /// What stands through a call.
     pub(crate) fn frame(&self, alloc: Global) -> Result<Frame, AllocError>
-        requires task { IsTask self.now.mill.now self.now.table.now self.now.decisions.now self.now.prices.now }
-        ensures { IfOk result (IsFrame self.now.mill.now self.now.decisions.now.list self.now.prices.now) }
+        ensures { IfOk result (IsFrame self.now) }
     {
-        let mut groups = Groups::new(alloc, self.mill.orders().len())?;
+        let count = self.mill.orders().len();
+        let mut groups = Groups::new(alloc, count)?;
         groups.form(self.mill, self.decisions, self.prices);
-        let ends = self.ends(alloc)?;
-        let plus = self.plus(alloc, &groups)?;
-        Ok(Frame { groups, ends, plus })
+        let keys = self.colour_keys(alloc, groups.heads())?;
+        let by_colour = Chains::new(alloc, &keys, self.mill.colours() as usize + 1)?;
+        let by_head = Chains::new(alloc, groups.heads(), count)?;
+        let worths = self.worths(alloc, &groups)?;
+        let ranking = self.ranking(alloc, &worths)?;
+        Ok(Frame {
+            groups,
+            by_colour,
+            by_head,
+            ends: self.ends(alloc)?,
+            worths,
+            ranking,
+            floor: self.least_charge(),
+        })
     }
 }

@@ -2,10 +2,10 @@
 ghost use Rattle.std.specs.Prelude.{◌≡◌, ◌*◌, ◌^◌, ◌<◌, ◌≤◌, true, IfOk, length, pos, ◌+ℤ◌, ◌*ℤ◌, unsigned_abs};
 ghost use Rattle.std.specs.Bool.{OnTrue, OnFalse};
 ghost use Rattle.mill_model.specs.Assignments.{Follows};
-ghost use Rattle.mill_model.specs.Groups.{AreHeads};
+ghost use Rattle.pricing_laws.specs.Groups.{AreHeads};
 ghost use Rattle.mill_model.specs.Prices.{IsPrice};
-ghost use Rattle.mill_model.specs.Gains.{gain_of};
-ghost use Rattle.mill_model.specs.Groupings.{HasRoom, AreBefore, AreWeights, AreGains, AreGroups, weight_at, gain_at};
+ghost use Rattle.pricing_laws.specs.Gains.{gain_of};
+ghost use Rattle.pricing_laws.specs.Groupings.{HasRoom, AreBefore, AreWeights, AreGains, AreGroups, weight_at, gain_at};
 ghost use Rattle.slab_price.specs.Groupings.{AreAlike, IsHead};
 
 use mill_model::{Ask, Mill, Prices};
@@ -22,11 +22,12 @@ pub(crate) struct Groups {
 }
 
 impl Model for Groups {
-    ghost use Rattle.mill_model.specs.Groupings.{Groups};
+    ghost use Rattle.pricing_laws.specs.Groupings.{Groups};
 
     ghost Value = { Groups };
 
-    ghost view = { λ g. record { heads = g.heads.items; weights = g.weights.items; gains = g.gains.items } };
+    ghost view = { λ g.
+        record { heads = g.heads.items; weights = g.weights.items; gains = g.gains.items } };
 }
 
 impl Groups {

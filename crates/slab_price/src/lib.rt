@@ -3,21 +3,28 @@
 
 mod apart;
 mod best;
+mod chains;
+mod costs;
 mod ends;
 mod found;
 mod frame;
+mod gather;
+mod grid;
 mod groups;
-mod marks;
+mod hunt;
 mod offer;
-mod pairs;
-mod plus;
+mod picks;
 mod pricing;
 mod queue;
+mod ranking;
+mod search;
+mod sets;
 mod table;
 mod task;
 #[cfg(test)]
 mod tests;
 mod walk;
+mod worths;
 
 pub use found::Found;
 pub use pricing::worst;

@@ -3,8 +3,10 @@ ghost use Rattle.std.specs.Prelude.{pos, ◌≤ℤ◌, IfOk, IfSome, IfNone};
 ghost use Rattle.slab_price.specs.Excess.{BelongTogether, IsGreatest, IsWorst};
 
 use crate::Found;
-use crate::pairs::Picks;
+use crate::picks::Picks;
 use crate::queue::Queue;
+use crate::search::Search;
+use crate::sets::Space;
 use crate::task::Task;
 use loss_table::LossTable;
 use mill_model::{Mill, Prices};
@@ -35,8 +37,13 @@ pub fn worst(
         prices,
     };
     let frame = task.frame(alloc)?;
-    let mut queue = Queue::new(alloc, count, frame.ends.len())?;
-    let mut picks = Picks::new(alloc, count)?;
-    task.price(&frame, &mut queue, &mut picks);
+    let queue = Queue::new(alloc, count, frame.ends.len())?;
+    let mut space = Space::new(alloc, queue);
+    let mut picks = Picks::new(alloc)?;
+    let search = Search {
+        task,
+        frame: &frame,
+    };
+    search.search_sets(frame.ranking.len(), mill.colour_limit(), 0, &mut space, &mut picks);
     Ok(picks.best.found())
 }

@@ -1,8 +1,9 @@
 //! What the first groups of a queue gain at most beside a load, less the cost of a slab that holds them all.
-ghost use Rattle.std.specs.Prelude.{◌≡◌, ◌+◌, ◌-◌, ◌*◌, ◌/◌, ◌^◌, ◌<◌, ◌≤◌, ℕ, pos, ◌+ℤ◌, ◌≤ℤ◌, unsigned_abs, List, length, slice_index_or, vec_capacity};
-ghost use Rattle.slab_price.specs.Bounds.{AreSteps, AreWeighed, IsTable};
+ghost use Rattle.std.specs.Prelude.{◌≡◌, ◌+◌, ◌-◌, ◌*◌, ◌/◌, ◌^◌, ◌<◌, ◌≤◌, pos, ◌+ℤ◌, ◌≤ℤ◌, unsigned_abs, length, slice_index_or, vec_capacity};
+ghost use Rattle.pricing_laws.specs.Bounds.{AreSmall};
+ghost use Rattle.slab_price.specs.Tables.{IsTableOf};
 
-use crate::frame::Frame;
+use crate::grid::Grid;
 
 /// The least step of the load for which a table of so many groups fits, and has no more entries than a walk has leaves.
 pub(crate) fn step_for(groups: usize, room: usize, entries: usize) -> usize
@@ -24,9 +25,10 @@ fn entry(row: usize, table: &[i128], width: usize, column: usize, jump: usize, g
     requires narrow { length table.now ≤ 2 ^ 24 }
     requires jump { jump < 2 ^ 32 }
     requires gain { unsigned_abs gain ≤ 2 ^ 84 }
-    requires small { (k : ℕ) → k < length table.now → unsigned_abs (slice_index_or table.now k (pos 0)) ≤ 2 ^ 100 + k * 2 ^ 84 }
+    requires small { AreSmall table.now }
     ensures without { slice_index_or table.now (row + column) (pos 0) ≤ℤ result }
-    ensures with { column + jump < width → (gain +ℤ slice_index_or table.now (row + (column + jump)) (pos 0)) ≤ℤ result }
+    ensures with { column + jump < width
+        → (gain +ℤ slice_index_or table.now (row + (column + jump)) (pos 0)) ≤ℤ result }
     ensures small { unsigned_abs result ≤ 2 ^ 100 + (row + width) * 2 ^ 84 }
 {
     let without = table[row + column];
@@ -36,74 +38,51 @@ fn entry(row: usize, table: &[i128], width: usize, column: usize, jump: usize, g
     without.max(gain + table[row + (column + jump)])
 }
 
-/// Adds the row of no group: the ends.
-fn push_ends(frame: &Frame, step: usize, width: usize, table: &mut Vec<i128>)
-    requires narrow { length frame.now.ends.items ≤ 10001 }
-    requires steps { AreSteps (length frame.now.ends.items) step width }
-    requires small { (k : ℕ) → k < length frame.now.ends.items → unsigned_abs (slice_index_or frame.now.ends.items k (pos 0)) ≤ 2 ^ 100 }
-    requires none { length table.old.items ≡ 0 }
-    requires room { width ≤ vec_capacity table.old }
-    ensures size { length table.new.items ≡ width }
-    ensures table { (queue : List ℕ) → IsTable frame.now.groups queue frame.now.ends.items step width table.new.items }
-    ensures room { vec_capacity table.new ≡ vec_capacity table.old }
-{
-    for column in 0..width {
-        table.push_reserved(frame.ends[column * step]);
+impl Grid<'_> {
+    /// Adds the row of no group: the ends.
+    fn push_ends(&self, table: &mut Vec<i128>)
+        requires none { length table.old.items ≡ 0 }
+        requires room { self.now.width ≤ vec_capacity table.old }
+        ensures size { length table.new.items ≡ self.now.width }
+        ensures table { IsTableOf self.now table.new.items }
+        ensures room { vec_capacity table.new ≡ vec_capacity table.old }
+    {
+        for column in 0..self.width {
+            table.push_reserved(self.ends[column * self.step]);
+        }
     }
-}
 
-/// Adds the row of one group more.
-fn push_row(
-    frame: &Frame,
-    queue: &[u16],
-    at: usize,
-    step: usize,
-    width: usize,
-    table: &mut Vec<i128>,
-)
-    requires weighed { AreWeighed frame.now.groups queue.now }
-    requires at { at < length queue.now }
-    requires few { length queue.now ≤ 250 }
-    requires narrow { length frame.now.ends.items ≤ 10001 }
-    requires steps { AreSteps (length frame.now.ends.items) step width }
-    requires size { length table.old.items ≡ (at + 1) * width }
-    requires room { (at + 2) * width ≤ vec_capacity table.old }
-    requires table { IsTable frame.now.groups queue.now frame.now.ends.items step width table.old.items }
-    ensures size { length table.new.items ≡ (at + 2) * width }
-    ensures table { IsTable frame.now.groups queue.now frame.now.ends.items step width table.new.items }
-    ensures room { vec_capacity table.new ≡ vec_capacity table.old }
-{
-    let head = queue[at] as usize;
-    let jump = frame.groups.weight(head) as usize / step;
-    let gain = frame.groups.gain(head);
-    let row = at * width;
-    for column in 0..width {
-        let next = entry(row, table, width, column, jump, gain);
-        table.push_reserved(next);
+    /// Adds the row of one group more.
+    fn push_row(&self, at: usize, table: &mut Vec<i128>)
+        requires at { at < length self.now.heads.now }
+        requires size { length table.old.items ≡ (at + 1) * self.now.width }
+        requires room { (at + 2) * self.now.width ≤ vec_capacity table.old }
+        requires table { IsTableOf self.now table.old.items }
+        ensures size { length table.new.items ≡ (at + 2) * self.now.width }
+        ensures table { IsTableOf self.now table.new.items }
+        ensures room { vec_capacity table.new ≡ vec_capacity table.old }
+    {
+        let head = self.heads[at] as usize;
+        let jump = self.groups.weight(head) as usize / self.step;
+        let gain = self.groups.gain(head);
+        let row = at * self.width;
+        for column in 0..self.width {
+            let next = entry(row, table, self.width, column, jump, gain);
+            table.push_reserved(next);
+        }
     }
-}
 
-/// Fills the table, row by row.
-pub(crate) fn tabulate(
-    frame: &Frame,
-    queue: &[u16],
-    step: usize,
-    width: usize,
-    table: &mut Vec<i128>,
-)
-    requires weighed { AreWeighed frame.now.groups queue.now }
-    requires few { length queue.now ≤ 250 }
-    requires narrow { length frame.now.ends.items ≤ 10001 }
-    requires steps { AreSteps (length frame.now.ends.items) step width }
-    requires small { (k : ℕ) → k < length frame.now.ends.items → unsigned_abs (slice_index_or frame.now.ends.items k (pos 0)) ≤ 2 ^ 100 }
-    requires room { (length queue.now + 1) * width ≤ vec_capacity table.old }
-    ensures size { length table.new.items ≡ (length queue.now + 1) * width }
-    ensures table { IsTable frame.now.groups queue.now frame.now.ends.items step width table.new.items }
-    ensures room { vec_capacity table.new ≡ vec_capacity table.old }
-{
-    table.clear();
-    push_ends(frame, step, width, table);
-    for at in 0..queue.len() {
-        push_row(frame, queue, at, step, width, table);
+    /// Fills the table, row by row.
+    pub(crate) fn tabulate(&self, table: &mut Vec<i128>)
+        requires { (length self.now.heads.now + 1) * self.now.width ≤ vec_capacity table.old }
+        ensures size { length table.new.items ≡ (length self.now.heads.now + 1) * self.now.width }
+        ensures table { IsTableOf self.now table.new.items }
+        ensures room { vec_capacity table.new ≡ vec_capacity table.old }
+    {
+        table.clear();
+        self.push_ends(table);
+        for at in 0..self.heads.len() {
+            self.push_row(at, table);
+        }
     }
 }

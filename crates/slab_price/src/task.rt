@@ -1,12 +1,8 @@
-//! A mill with what is asked about it, and what its slabs cost.
-ghost use Rattle.std.specs.Prelude.{◌≡◌, ◌^◌, ◌≤◌, pos, ◌*ℤ◌, unsigned_abs};
-ghost use Rattle.mill_model.specs.Columns.{IsInStock, size_of};
-ghost use Rattle.mill_model.specs.Prices.{charge};
-ghost use Rattle.mill_model.specs.Gains.{cost_of};
-ghost use Rattle.slab_price.specs.Searches.{IsTask};
+//! A mill with all that is asked about it.
+ghost use Rattle.slab_price.specs.Excess.{IsAsked};
 
 use loss_table::LossTable;
-use mill_model::{Kind, Mill, Prices};
+use mill_model::{Mill, Prices};
 use slab_decide::Decisions;
 
 /// A mill with all that is asked about it.
@@ -16,50 +12,5 @@ pub(crate) struct Task<'a> {
     pub table: &'a LossTable,
     pub decisions: &'a Decisions,
     pub prices: &'a Prices,
-}
-
-impl Task<'_> {
-    /// The size of a slab.
-    pub(crate) fn size(&self, kind: Kind) -> u16
-        requires task { IsTask self.now.mill.now self.now.table.now self.now.decisions.now self.now.prices.now }
-        requires stock { IsInStock self.now.mill.now kind }
-        ensures size { result ≡ size_of self.now.mill.now kind }
-        ensures small { result ≤ 10000 }
-    {
-        match kind {
-            Kind::New(size) => size,
-            Kind::Old(slab) => self.mill.yard()[slab as usize],
-        }
-    }
-
-    /// What a slab costs, beside its loss.
-    fn charge(&self, kind: Kind) -> i128
-        requires task { IsTask self.now.mill.now self.now.table.now self.now.decisions.now self.now.prices.now }
-        requires stock { IsInStock self.now.mill.now kind }
-        ensures charge { result ≡ charge self.now.prices.now kind }
-        ensures small { unsigned_abs result ≤ 2 ^ 62 }
-    {
-        match kind {
-            Kind::New(_) => i128::from(self.prices.mu()),
-            Kind::Old(slab) => i128::from(self.prices.sigma()[slab as usize]),
-        }
-    }
-
-    /// The price of so much loss.
-    fn loss_price(&self, loss: u16) -> i128
-        ensures price { result ≡ self.now.prices.now.lambda *ℤ pos loss }
-        ensures small { unsigned_abs result ≤ 2 ^ 79 }
-    {
-        i128::from(self.prices.lambda()) * i128::from(loss)
-    }
-
-    /// What a slab costs where nothing lies on it.
-    pub(crate) fn cost(&self, kind: Kind) -> i128
-        requires task { IsTask self.now.mill.now self.now.table.now self.now.decisions.now self.now.prices.now }
-        requires stock { IsInStock self.now.mill.now kind }
-        ensures cost { result ≡ cost_of self.now.mill.now self.now.prices.now kind }
-        ensures small { unsigned_abs result ≤ 2 ^ 80 }
-    {
-        self.charge(kind) + self.loss_price(self.size(kind))
-    }
+    ghost asked: { IsAsked mill.now table.now decisions.now prices.now },
 }

@@ -1,5 +1,6 @@
 //! Answers that a reader can compute by hand.
-ghost use Rattle.std.specs.Prelude.{◌≡◌, [], pos, ◌≤ℤ◌, IfOk, length};
+ghost use Rattle.std.specs.Prelude.{◌≡◌, ◌∷◌, [], pos, ◌≤ℤ◌, IfOk, length};
+ghost use Rattle.mill_model.specs.Mill.{IsBetween};
 
 use crate::{Found, worst};
 use loss_table::LossTable;
@@ -36,13 +37,40 @@ fn mill_of_six_orders(alloc: Global) -> Result<Mill, AllocError>
     Ok(Mill::new(sizes, 1, orders))
 }
 
-/// The mill of three orders with a surplus slab, which holds one order.
+/// A mill of one size, which holds its three orders of three colours, with so many colours on a slab.
+fn mill_of_three_colours(alloc: Global, limit: u16) -> Result<Mill, AllocError>
+    requires { IsBetween 1 3 limit }
+    ensures orders { IfOk result (λ mill. length mill.orders ≡ 3) }
+    ensures yard { IfOk result (λ mill. mill.yard ≡ []) }
+{
+    let first = Order {
+        weight: 3,
+        colour: 1,
+    };
+    let second = Order {
+        weight: 3,
+        colour: 2,
+    };
+    let third = Order {
+        weight: 3,
+        colour: 3,
+    };
+    let sizes = vec![in alloc; 9]?;
+    let orders = vec![in alloc; first, second, third]?;
+    let mut mill = Mill::new(sizes, 3, orders);
+    mill.set_colour_limit(limit);
+    Ok(mill)
+}
+
+/// The mill of three orders with a surplus slab, which holds one order; the first order mustn't lie on it.
 fn mill_with_surplus(alloc: Global) -> Result<Mill, AllocError>
     ensures orders { IfOk result (λ mill. length mill.orders ≡ 3) }
     ensures yard { IfOk result (λ mill. length mill.yard ≡ 1) }
 {
     let mut mill = mill_of_three_orders(alloc)?;
-    mill.put_yard(Yard::new(vec![in alloc; 5]?));
+    let sizes = vec![in alloc; 5]?;
+    let bars = vec![in alloc; (0, 0)]?;
+    mill.put_yard(Yard::new(sizes, bars));
     Ok(mill)
 }
 
@@ -59,15 +87,16 @@ fn prices_of(alloc: Global, mu: i8, pi: i8, last: i8) -> Result<Prices, AllocErr
     Ok(Prices::new(1, mu, orders, Vec::new(alloc)))
 }
 
-/// Prices of three orders that are worth the same, and of one surplus slab, which is free.
-fn prices_with_surplus(alloc: Global, mu: i8, pi: i8) -> Result<Prices, AllocError>
+/// Prices of three orders, of which the last two are worth the same, and of one surplus slab, which is free.
+fn prices_with_surplus(alloc: Global, mu: i8, first: i8, pi: i8) -> Result<Prices, AllocError>
     ensures lambda { IfOk result (λ prices. pos 0 ≤ℤ prices.lambda) }
     ensures pi { IfOk result (λ prices. length prices.pi ≡ 3) }
     ensures sigma { IfOk result (λ prices. length prices.sigma ≡ 1) }
 {
     let mu = i64::from(mu);
+    let first = i64::from(first);
     let pi = i64::from(pi);
-    let orders = vec![in alloc; pi, pi, pi]?;
+    let orders = vec![in alloc; first, pi, pi]?;
     let slabs = vec![in alloc; 0]?;
     Ok(Prices::new(1, mu, orders, slabs))
 }
@@ -124,10 +153,10 @@ fn finds_none_where_the_pair_is_apart(rt: HostRuntime) -> Result<(), Fail> {
 }
 
 #[test]
-fn prefers_the_surplus_slab(rt: HostRuntime) -> Result<(), Fail> {
+fn prefers_the_surplus_slab_where_it_is_not_barred(rt: HostRuntime) -> Result<(), Fail> {
     let mill = mill_with_surplus(rt.alloc())?;
     let decisions = Decisions::new(rt.alloc(), 3, 1)?;
-    let prices = prices_with_surplus(rt.alloc(), 5, 4)?;
+    let prices = prices_with_surplus(rt.alloc(), 9, 5, 4)?;
     let Some(found) = answer(rt.alloc(), &mill, &decisions, &prices)? else {
         return Err(Fail::from("an order on the surplus slab exceeds"));
     };
@@ -148,5 +177,32 @@ fn finds_three_of_six(rt: HostRuntime) -> Result<(), Fail> {
     assert_eq!(rt; found.kind(), Kind::New(10));
     assert_eq!(rt; found.orders().len(), 3);
     assert_eq!(rt; found.excess(), 2);
+    Ok(())
+}
+
+#[test]
+fn finds_three_orders_of_three_colours(rt: HostRuntime) -> Result<(), Fail> {
+    let mill = mill_of_three_colours(rt.alloc(), 3)?;
+    let decisions = Decisions::new(rt.alloc(), 3, 0)?;
+    let prices = prices_of(rt.alloc(), 0, 4, 4)?;
+    let Some(found) = answer(rt.alloc(), &mill, &decisions, &prices)? else {
+        return Err(Fail::from("three orders exceed"));
+    };
+    assert_eq!(rt; found.kind(), Kind::New(9));
+    assert_eq!(rt; found.orders().len(), 3);
+    assert_eq!(rt; found.excess(), 12);
+    Ok(())
+}
+
+#[test]
+fn finds_two_orders_of_three_colours(rt: HostRuntime) -> Result<(), Fail> {
+    let mill = mill_of_three_colours(rt.alloc(), 2)?;
+    let decisions = Decisions::new(rt.alloc(), 3, 0)?;
+    let prices = prices_of(rt.alloc(), 0, 4, 4)?;
+    let Some(found) = answer(rt.alloc(), &mill, &decisions, &prices)? else {
+        return Err(Fail::from("two orders exceed"));
+    };
+    assert_eq!(rt; found.orders().len(), 2);
+    assert_eq!(rt; found.excess(), 5);
     Ok(())
 }

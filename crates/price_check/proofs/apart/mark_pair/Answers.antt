@@ -1,6 +1,6 @@
 use Rattle.std.proofs.Common.{◌≡◌, ◌+◌, ◌*◌, ◌<◌, true, length, get_or, set, sym, ap, ◌∙◌, arith, length-set}
 use Rattle.mill_model.specs.Columns.{has}
-use Rattle.mill_model.specs.Groups.{head_of}
+use Rattle.pricing_laws.specs.Groups.{head_of}
 use Rattle.price_check.proofs.Apartness.{mark_within, apart_more, heads_apart}
 use Rattle.price_check.proofs.apart.mark_pair.Goals as goal
 

@@ -1,7 +1,7 @@
 use Rattle.std.proofs.Common.{◌≡◌, ℕ, ◌+◌, ◌-◌, ◌*◌, ◌/◌, ◌^◌, ◌<◌, ◌≤◌, ℤ, length, get_or, subst, sym, ap, ◌∙◌, to_z, of_z, arith}
 use Rattle.std.specs.Prelude.{unsigned_abs}
 use Rattle.std.specs.Int.{w128}
-use Rattle.mill_model.specs.Groupings.{weight_at, gain_at}
+use Rattle.pricing_laws.specs.Groupings.{weight_at, gain_at}
 use Rattle.price_check.specs.Bounds.{cell_at, AreBoundsFrom, IsRow}
 use Rattle.price_check.proofs.Queues.{Rises-length}
 use Rattle.price_check.proofs.Rows.{rows_last, rows_more, cells_small}

@@ -1,7 +1,7 @@
 use Rattle.std.proofs.Common.{ℕ, ◌<◌}
 use Rattle.std.specs.Prelude.{◌≤ℤ◌}
 use Rattle.mill_model.specs.declared.kind.Kind.TheVariants.{Old}
-use Rattle.mill_model.specs.Gains.{cost_of}
+use Rattle.pricing_laws.specs.Gains.{cost_of}
 use Rattle.price_check.proofs.ends.least_old_cost.Given as goal
 
 abbrev pub invariant-loop-slab : goal.invariant-loop-slab

@@ -1,5 +1,5 @@
 use Rattle.std.proofs.Common.{reverse, take}
-use Rattle.mill_model.specs.Groups.{AreHeads}
+use Rattle.pricing_laws.specs.Groups.{AreHeads}
 use Rattle.price_check.proofs.groups.join_all.Given as goal
 
 abbrev pub invariant-loop-ask : goal.invariant-loop-ask

@@ -2,10 +2,10 @@ use Rattle.std.proofs.Common.{◌≡◌, ℕ, ℤ, pos, ◌+◌, ◌*◌, ◌^�
 use Rattle.std.specs.Prelude.{unsigned_abs}
 use Rattle.std.specs.Int.{w128}
 use Rattle.std.proofs.lemmas.Int.{ints}
-use Rattle.mill_model.proofs.Groups.{AreTotals}
-use Rattle.mill_model.specs.Gains.{gain_of}
+use Rattle.pricing_laws.proofs.Groups.{AreTotals}
+use Rattle.pricing_laws.specs.Gains.{gain_of}
 use Rattle.price_check.proofs.Sums.{add_back}
-use Rattle.mill_model.proofs.Groupings.{small_more, priced_more, gains_done}
+use Rattle.pricing_laws.proofs.Groupings.{small_more, priced_more, gains_done}
 use Rattle.price_check.proofs.groups.price_groups.Goals as goal
 
 pub overflow_add-gains : goal.overflow_add-gains

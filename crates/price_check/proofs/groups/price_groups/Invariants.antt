@@ -1,7 +1,7 @@
 use Rattle.std.proofs.Common.{ℕ, pos, ◌*◌, ◌^◌, ◌≤◌, get_or}
 use Rattle.std.specs.Prelude.{unsigned_abs}
-use Rattle.mill_model.proofs.Groups.{AreTotals}
-use Rattle.mill_model.specs.Gains.{gain_of}
+use Rattle.pricing_laws.proofs.Groups.{AreTotals}
+use Rattle.pricing_laws.specs.Gains.{gain_of}
 use Rattle.price_check.proofs.groups.price_groups.Given as goal
 
 abbrev pub invariant-loop-order : goal.invariant-loop-order

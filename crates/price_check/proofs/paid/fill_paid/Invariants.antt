@@ -2,7 +2,7 @@ use Rattle.std.proofs.Common.{◌≡◌, ℕ, ◌<◌, ◌≤◌, ◌^◌, pos, 
 use Rattle.std.specs.Prelude.{◌≤ℤ◌, unsigned_abs}
 use Rattle.mill_model.specs.declared.kind.Kind.{Kind}
 use Rattle.mill_model.specs.Columns.{IsInStock, size_of}
-use Rattle.mill_model.specs.Gains.{cost_of}
+use Rattle.pricing_laws.specs.Gains.{cost_of}
 use Rattle.price_check.specs.Bounds.{cell_at}
 use Rattle.price_check.proofs.paid.fill_paid.Given as goal
 

@@ -1,7 +1,7 @@
 use Rattle.std.proofs.Common.{ℕ, ◌<◌, ◌≤◌, ◌^◌, pos, ◌+ℤ◌, get_or}
 use Rattle.std.specs.Prelude.{◌≤ℤ◌, unsigned_abs}
 use Rattle.mill_model.specs.declared.kind.Kind.TheVariants.{New}
-use Rattle.mill_model.specs.Gains.{cost_of}
+use Rattle.pricing_laws.specs.Gains.{cost_of}
 use Rattle.price_check.proofs.paid.paid_by_new.Given as goal
 
 abbrev pub invariant-loop-size : goal.invariant-loop-size

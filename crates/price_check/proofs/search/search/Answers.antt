@@ -3,7 +3,7 @@ use Rattle.std.specs.Prelude.{FitsSigned}
 use Rattle.std.specs.Int.{w128}
 use Rattle.std.proofs.lemmas.Int.{ints}
 use Rattle.mill_model.specs.Columns.{size_of}
-use Rattle.mill_model.specs.Gains.{cost_of}
+use Rattle.pricing_laws.specs.Gains.{cost_of}
 use Rattle.price_check.specs.Apartness.{AreApart}
 use Rattle.price_check.specs.Bounds.{ArePlusFrom, ArePaid}
 use Rattle.price_check.proofs.Options.{written}

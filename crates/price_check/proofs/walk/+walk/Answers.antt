@@ -3,7 +3,7 @@ use Rattle.std.specs.Prelude.{ℤ, pos, ◌+ℤ◌, ◌≤ℤ◌, unsigned_abs}
 use Rattle.std.specs.Int.{w128}
 use Rattle.std.proofs.lemmas.Bool.{OnTrue_at}
 use Rattle.mill_model.specs.Columns.{Rises}
-use Rattle.mill_model.specs.Groupings.{weight_at, gain_at}
+use Rattle.pricing_laws.specs.Groupings.{weight_at, gain_at}
 use Rattle.price_check.specs.Search.{AreTaken, IsClear}
 use Rattle.price_check.specs.Apartness.{IsApart}
 use Rattle.price_check.proofs.Options.{none_weaker, none_at}

@@ -1,7 +1,7 @@
 use Rattle.std.proofs.Common.{[], ◌∷◌, ◌++◌, length, take, sym, ap, ◌∙◌, arith, append-nil}
 use Rattle.std.specs.Vec.{vec_capacity}
 use Rattle.std.proofs.lemmas.Bool.{cond-true, cond-false}
-use Rattle.mill_model.specs.Groups.{members}
+use Rattle.pricing_laws.specs.Groups.{members}
 use Rattle.price_check.proofs.Queues.{members_more, members_length}
 use Rattle.price_check.proofs.walk.gather.Goals.{then-contains, else-contains}
 use Rattle.price_check.proofs.walk.gather.Goals as goal

@@ -1,7 +1,7 @@
 use Rattle.std.proofs.Common.{◌≡◌, ℕ, ◌≤◌, ℤ, List, length, refl, subst, sym, ap, ◌∙◌, to_z, of_z, arith}
 use Rattle.std.specs.Int.{w128}
 use Rattle.mill_model.specs.Columns.{Rises}
-use Rattle.mill_model.specs.Groups.{members}
+use Rattle.pricing_laws.specs.Groups.{members}
 use Rattle.price_check.specs.Search.{AreChosen}
 use Rattle.price_check.proofs.Sums.{back_small}
 use Rattle.price_check.proofs.Queues.{Rises-length}

@@ -1,7 +1,7 @@
 use Rattle.std.proofs.Common.{◌+◌, ◌*◌, ◌^◌, ◌<◌, ◌≤◌, ◌+ℤ◌, length, get_or, subst, sym, ap, ◌∙◌, arith}
 use Rattle.std.specs.Prelude.{unsigned_abs}
 use Rattle.std.proofs.lemmas.Int.{ints}
-use Rattle.mill_model.specs.Groupings.{gain_at}
+use Rattle.pricing_laws.specs.Groupings.{gain_at}
 use Rattle.mill_model.specs.Columns.{Rises}
 use Rattle.price_check.proofs.Walks.{chosen_rises}
 use Rattle.price_check.proofs.Parts.{rising_at}

@@ -1,10 +1,13 @@
-use Rattle.std.proofs.Common.{Bool, sym, subst}
 use Rattle.std.specs.Bool.{OnTrue}
-use Rattle.slab_price.specs.Groupings.{AreApart}
-use Rattle.slab_price.proofs.Groupings.{apart_where_kept}
+use Rattle.std.proofs.Common.{Bool, true, false, ℕ, List}
+use Rattle.mill_model.specs.Decisions.{Decision}
+use Rattle.pricing_laws.specs.Groups.{AreApart}
 use Rattle.slab_price.proofs.apart.are_apart.Goals as goal
 
-pub returns : goal.returns
-returns c =
-    subst (λ (b : Bool). OnTrue b (AreApart c.args.decisions.now.list c.args.first c.args.second)) (sym c.eq.ensures)
-    (apart_where_kept c.args.decisions.now.list c.follows.ensures.consistent c.args.first c.args.second c.follows.result c.follows.ensures.some)
+-- apart is apart either way round
+turned : (b : Bool) (decisions : List Decision) (first second : ℕ) → OnTrue b (AreApart decisions first second) → OnTrue b (AreApart decisions second first)
+turned true decisions first second apart = λ c agrees has_second has_first. apart c agrees has_first has_second
+turned false decisions first second apart = tt
+
+pub returns-then-other-one : goal.returns-then-other-one
+returns-then-other-one c = turned c.keeps_apart-then-other-one.result c.args.decisions.now.list c.args.other c.args.one c.keeps_apart-then-other-one.ensures

@@ -2,7 +2,7 @@ use Rattle.std.proofs.Common.{ℕ, ◌+◌, ◌*◌, ◌^◌, ◌<◌, ◌≤◌
 use Rattle.std.specs.Prelude.{unsigned_abs}
 use Rattle.std.specs.Int.{w128}
 use Rattle.std.proofs.lemmas.Int.{ints}
-use Rattle.slab_price.proofs.Numbers.{max_small}
+use Rattle.pricing_laws.proofs.Numbers.{max_small}
 use Rattle.slab_price.proofs.table.entry.Goals as goal
 
 -- an entry of a table is small

@@ -1,40 +1,33 @@
-use Rattle.std.proofs.Common.{◌≡◌, ℕ, ◌+◌, ◌<◌, cond, List, [], ◌∷◌, ◌++◌, length, get_or, take, ap, sym, ◌∙◌, arith, append-nil}
-use Rattle.std.specs.Vec.{vec_capacity}
-use Rattle.std.proofs.Common.{Vec, Global}
+use Rattle.std.proofs.Common.{◌≡◌, ℕ, ◌+◌, List, [], ◌∷◌, ◌++◌, length, get_or, take, cond, sym, ap, ◌∙◌, arith, append-nil, Vec, Global, vec_capacity}
 use Rattle.std.proofs.lemmas.Bool.{cond-true, cond-false}
-use Rattle.std.proofs.lemmas.List.{length_push, length-take, take_more}
+use Rattle.std.proofs.lemmas.List.{length_push}
 use Rattle.mill_model.specs.Columns.{has}
-use Rattle.mill_model.specs.Groups.{members}
-use Rattle.mill_model.proofs.Groups.{members_from-push}
+use Rattle.pricing_laws.specs.Groups.{members}
+use Rattle.pricing_laws.proofs.Groups.{members_take}
+use Rattle.slab_price.proofs.walk.list_members.Goals.{then-contains, else-contains}
 use Rattle.slab_price.proofs.walk.list_members.Goals as goal
-use Rattle.slab_price.proofs.walk.list_members.Goals.{then-has, else-has}
-
--- one order more
-more : (heads chosen : List ℕ) (o : ℕ) → o < length heads → members (take (o + 1) heads) chosen ≡ members (take o heads) chosen ++ cond (has chosen (get_or heads o 0)) (o ∷ []) []
-more heads chosen o h =
-    ap (λ hs. members hs chosen) (take_more heads o 0 h) ∙ members_from-push 0 (take o heads) (get_or heads o 0) chosen
-    ∙ ap (λ n. members (take o heads) chosen ++ cond (has chosen (get_or heads o 0)) (n ∷ []) []) (omega (arith, length-take o heads))
 
 pub loop-order-preserved : goal.loop-order-preserved
 loop-order-preserved c =
-    let next : members (take (c.loop-order.order + 1) c.args.heads.now) c.args.chosen.now ≡ members (take c.loop-order.order c.args.heads.now) c.args.chosen.now ++ cond (has c.args.chosen.now (get_or c.args.heads.now c.loop-order.order 0)) (c.loop-order.order ∷ []) [] =
-    more c.args.heads.now c.args.chosen.now c.loop-order.order c.loop-order-test.true in
-    let so_far : c.loop-order.orders.items ≡ members (take c.loop-order.order c.args.heads.now) c.args.chosen.now = c.loop-order.invariant.members in
-    elim c.if-has.branch [
-      | then-has w ↦
-          let yes : cond (has c.args.chosen.now (get_or c.args.heads.now c.loop-order.order 0)) (c.loop-order.order ∷ []) [] ≡ c.loop-order.order ∷ [] = cond-true (has c.args.chosen.now (get_or c.args.heads.now c.loop-order.order 0)) (c.loop-order.order ∷ []) [] (sym c.has.ensures ∙ w.if-has.true) in
-          let items : c.if-has.orders.items ≡ c.loop-order.orders.items ++ c.loop-order.order ∷ [] = ap (λ (v : Vec ℕ Global). v.items) w.orders-is ∙ w.push_reserved.ensures.items in
+    let heads = c.args.heads.now in
+    let chosen = c.args.chosen.now in
+    let o = c.loop-order.order in
+    let next : members (take (o + 1) heads) chosen ≡ members (take o heads) chosen ++ cond (has chosen (get_or heads o 0)) (o ∷ []) [] = members_take heads chosen o c.loop-order-test.true in
+    let so_far : c.loop-order.orders.items ≡ members (take o heads) chosen = c.loop-order.invariant.members in
+    elim c.if-contains.branch [
+      | then-contains w ↦
+          let items : c.if-contains.orders.items ≡ c.loop-order.orders.items ++ o ∷ [] = ap (λ (v : Vec ℕ Global). v.items) w.orders-is ∙ w.push_reserved.ensures.items in
           record {
-            few = omega (arith, ap (λ (os : List ℕ). length os) items, length_push c.loop-order.orders.items c.loop-order.order, c.loop-order.invariant.few);
-            members = items ∙ ap (λ (os : List ℕ). os ++ c.loop-order.order ∷ []) so_far ∙ sym (next ∙ ap (λ (os : List ℕ). members (take c.loop-order.order c.args.heads.now) c.args.chosen.now ++ os) yes);
+            few = omega (arith, ap (λ (os : List ℕ). length os) items, length_push c.loop-order.orders.items o, c.loop-order.invariant.few);
+            members = items ∙ ap (λ (os : List ℕ). os ++ o ∷ []) so_far ∙ sym (next ∙ ap (λ (os : List ℕ). members (take o heads) chosen ++ os) (cond-true (has chosen (get_or heads o 0)) (o ∷ []) [] (sym c.contains.ensures.value ∙ w.if-contains.true)));
             room = ap (λ (v : Vec ℕ Global). vec_capacity v) w.orders-is ∙ w.push_reserved.ensures.capacity ∙ c.loop-order.invariant.room;
           }
-      | else-has w ↦
-          let no : cond (has c.args.chosen.now (get_or c.args.heads.now c.loop-order.order 0)) (c.loop-order.order ∷ []) [] ≡ [] = cond-false (has c.args.chosen.now (get_or c.args.heads.now c.loop-order.order 0)) (c.loop-order.order ∷ []) [] (sym c.has.ensures ∙ w.if-has.false) in
-          let items : c.if-has.orders.items ≡ c.loop-order.orders.items = ap (λ (v : Vec ℕ Global). v.items) w.orders-is in
+      | else-contains w ↦
+          let items : c.if-contains.orders.items ≡ c.loop-order.orders.items = ap (λ (v : Vec ℕ Global). v.items) w.orders-is in
           record {
             few = omega (arith, ap (λ (os : List ℕ). length os) items, c.loop-order.invariant.few);
-            members = items ∙ so_far ∙ sym (next ∙ ap (λ (os : List ℕ). members (take c.loop-order.order c.args.heads.now) c.args.chosen.now ++ os) no ∙ append-nil (members (take c.loop-order.order c.args.heads.now) c.args.chosen.now));
+            members = items ∙ so_far
+                ∙ sym (next ∙ ap (λ (os : List ℕ). members (take o heads) chosen ++ os) (cond-false (has chosen (get_or heads o 0)) (o ∷ []) [] (sym c.contains.ensures.value ∙ w.if-contains.false)) ∙ append-nil (members (take o heads) chosen));
             room = ap (λ (v : Vec ℕ Global). vec_capacity v) w.orders-is ∙ c.loop-order.invariant.room;
           }
     ]

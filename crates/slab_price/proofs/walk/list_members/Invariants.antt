@@ -1,6 +1,6 @@
 use Rattle.std.proofs.Common.{◌≡◌, ◌≤◌, length, take}
 use Rattle.std.specs.Vec.{vec_capacity}
-use Rattle.mill_model.specs.Groups.{members}
+use Rattle.pricing_laws.specs.Groups.{members}
 use Rattle.slab_price.proofs.walk.list_members.Given as goal
 
 abbrev pub invariant-loop-order : goal.invariant-loop-order

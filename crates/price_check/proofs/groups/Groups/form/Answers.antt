@@ -1,8 +1,8 @@
 use Rattle.std.proofs.Common.{◌≡◌, ℕ, List, length, subst, ap, ◌∙◌}
 use Rattle.std.specs.Vec.{with_items}
 use Rattle.std.proofs.lemmas.List.{with_items_is}
-use Rattle.mill_model.specs.Groupings.{Groups, AreWeights, AreGains}
-use Rattle.mill_model.proofs.Groupings.{groups_at}
+use Rattle.pricing_laws.specs.Groupings.{Groups, AreWeights, AreGains}
+use Rattle.pricing_laws.proofs.Groupings.{groups_at}
 use Rattle.price_check.proofs.groups.Groups.form.Goals as goal
 
 pub returns : goal.returns

@@ -5,8 +5,8 @@ use Rattle.std.proofs.lemmas.Int.{ints}
 use Rattle.std.proofs.lemmas.List.{length_push}
 use Rattle.mill_model.specs.declared.kind.Kind.{Kind}
 use Rattle.mill_model.specs.Columns.{IsInStock, size_of}
-use Rattle.mill_model.specs.Gains.{cost_of}
-use Rattle.slab_price.proofs.Numbers.{each_push}
+use Rattle.pricing_laws.specs.Gains.{cost_of}
+use Rattle.pricing_laws.proofs.Numbers.{each_push}
 use Rattle.slab_price.proofs.task.Task.ends.Goals as goal
 
 pub loop-load-preserved : goal.loop-load-preserved

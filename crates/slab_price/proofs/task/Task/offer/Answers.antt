@@ -1,10 +1,12 @@
-use Rattle.std.proofs.Common.{arith}
-use Rattle.std.proofs.lemmas.Int.{ints}
-use Rattle.slab_price.proofs.Packs.{pack_best}
+use Rattle.std.proofs.Common.{◌≡◌, length}
+use Rattle.slab_price.specs.Bests.{IsOnNew, IsOnYard}
+use Rattle.slab_price.specs.Tasks.{problem_of}
+use Rattle.slab_price.proofs.Improving.{improved_both}
+use Rattle.slab_price.proofs.Packs.{on_some_slab}
 use Rattle.slab_price.proofs.task.Task.offer.Goals as goal
 
-pub returns-clause-greatest : goal.returns-clause-greatest
-returns-clause-greatest c =
-    pack_best c.args.self.now.mill.now c.args.self.now.decisions.now.list c.args.self.now.prices.now c.args.orders.now c.args.weight c.args.gain c.requires.pack c.offer_yard.new.best.excess
-    (λ size stock holds agrees. omega (arith, ints, c.requires.pack.small, c.offer_new.ensures.greatest size stock holds agrees, c.offer_yard.ensures.grows))
-    (λ s inside holds agrees. omega (arith, ints, c.requires.pack.small, c.offer_yard.ensures.greatest s inside holds agrees))
+pub returns : goal.returns
+returns c =
+    let q = problem_of c.args.self.now in
+    let orders = c.args.orders.now in
+    improved_both q c.args.best.now c.offer_new.new.best c.offer_yard.new.best (IsOnNew orders) (IsOnYard (length q.mill.yard) orders) (λ d. d.orders ≡ orders) (on_some_slab q orders) c.offer_new.ensures c.offer_yard.ensures
