@@ -1,53 +1,50 @@
--- How the best column is improved.
-use Rattle.std.proofs.Common.{◌≡◌, ◌⊎◌, inl, inr, ℕ, ℤ, pos, ◌≤ℤ◌, ◌<ℤ◌, List, [], length, Option, None, Some, sym, subst, arith}
+-- How answers of a search go together.
+use Rattle.std.proofs.Common.{◌≡◌, ◌⊎◌, inl, inr, ℕ, ℤ, pos, ◌≤ℤ◌, true, false, List, [], length, Option, None, Some, refl, sym, subst, ◌∙◌, arith}
 use Rattle.std.specs.Prelude.{IfSome, IfNone}
-use Rattle.std.proofs.lemmas.Int.{ints, by_lt_z}
+use Rattle.std.specs.Option.{is_some}
+use Rattle.std.proofs.lemmas.Bool.{true≢false}
+use Rattle.std.proofs.lemmas.Int.{ints}
+use Rattle.mill_model.specs.declared.kind.Kind.{Kind}
 use Rattle.mill_model.specs.Columns.{Column}
 use Rattle.pricing_laws.specs.Colours.{IsOfSet}
 use Rattle.pricing_laws.specs.Parts.{left_of}
 use Rattle.pricing_laws.specs.Worths.{IsRanking}
 use Rattle.pricing_laws.specs.Problems.{Problem, IsAllowed, ExceedAtMost}
-use Rattle.pricing_laws.proofs.Problems.{at_most, exceed_both, exceed_weaker}
 use Rattle.pricing_laws.proofs.Colours.{column_set}
-use Rattle.price_check.specs.declared.best.Best.{Best}
-use Rattle.price_check.specs.Finds.{IsBest, IsImproved, as_found}
-use Rattle.price_check.specs.Excess.{IsFound, IsGreatest, IsWorst}
-use Rattle.price_check.specs.Found.{Found}
+use Rattle.pricing_laws.proofs.Excesses.{priced_from_excess}
+use Rattle.pricing_laws.proofs.Problems.{exceed_both, exceed_weaker}
+use Rattle.price_check.specs.Exceeding.{IsExceeding, NoneExceeds}
+use Rattle.price_check.specs.Finds.{IsAnswer}
 
+-- no column exceeds
+pub answer_none : (q : Problem) (orders : List ℕ) (IsSo : Column → Type 0) → ExceedAtMost q (pos 0) IsSo → IsAnswer q orders None IsSo
+answer_none q orders IsSo most = record { none = most; some = tt }
 
--- nothing changes
-pub improved_same : (q : Problem) (best : Best) (IsSo : Column → Type 0) → ExceedAtMost q best.excess IsSo → IsImproved q best best IsSo
-improved_same q best IsSo most = record { kept = λ b. b; grows = omega (arith, ints); most = most }
+-- one does
+pub answer_some : (q : Problem) (orders : List ℕ) (kind : Kind) (IsSo : Column → Type 0) → IsExceeding q.mill q.decisions q.prices (record { kind = kind; orders = orders }) → IsAnswer q orders (Some kind) IsSo
+answer_some q orders kind IsSo exceeding = record { none = tt; some = exceeding }
+
+-- what was found is found, of whatever columns
+pub answer_found : (q : Problem) (orders : List ℕ) (found : Option Kind) (IsSo IsLess : Column → Type 0) → is_some found ≡ true → IsAnswer q orders found IsSo → IsAnswer q orders found IsLess
+answer_found q orders None IsSo IsLess e a = cc
+answer_found q orders (Some kind) IsSo IsLess e a = record { none = tt; some = a.some }
+
+-- nothing was found
+pub answer_empty : (q : Problem) (orders : List ℕ) (found : Option Kind) (IsSo : Column → Type 0) → is_some found ≡ false → IsAnswer q orders found IsSo → ExceedAtMost q (pos 0) IsSo
+answer_empty q orders None IsSo e a = a.none
+answer_empty q orders (Some kind) IsSo e a = cc
 
 -- fewer columns
-pub improved_less : (q : Problem) (old new : Best) (IsSo IsLess : Column → Type 0) → ((c : Column) → IsAllowed q c → IsLess c → IsSo c) → IsImproved q old new IsSo → IsImproved q old new IsLess
-improved_less q old new IsSo IsLess less i = record { kept = i.kept; grows = i.grows; most = exceed_weaker q new.excess new.excess IsSo IsLess (omega (arith, ints)) less i.most }
+pub answer_less : (q : Problem) (orders : List ℕ) (found : Option Kind) (IsSo IsLess : Column → Type 0) → ((c : Column) → IsAllowed q c → IsLess c → IsSo c) → IsAnswer q orders found IsSo → IsAnswer q orders found IsLess
+answer_less q orders None IsSo IsLess less a = record { none = exceed_weaker q (pos 0) (pos 0) IsSo IsLess (omega (arith, ints)) less a.none; some = tt }
+answer_less q orders (Some kind) IsSo IsLess less a = record { none = tt; some = a.some }
 
--- first by some columns, then by others
-pub improved_both : (q : Problem) (old mid new : Best) (IsFirst IsSecond IsEither : Column → Type 0) → ((c : Column) → IsAllowed q c → IsEither c → IsFirst c ⊎ IsSecond c) → IsImproved q old mid IsFirst → IsImproved q mid new IsSecond → IsImproved q old new IsEither
-improved_both q old mid new IsFirst IsSecond IsEither either i j = record {
-  kept = λ b. j.kept (i.kept b);
-  grows = at_most old.excess mid.excess new.excess i.grows j.grows;
-  most = exceed_both q mid.excess new.excess IsFirst IsSecond IsEither j.grows either i.most j.most;
-}
-
--- ---- the answer
+-- of some columns none exceeds, then others are searched
+pub answer_both : (q : Problem) (orders : List ℕ) (found : Option Kind) (IsFirst IsSecond IsEither : Column → Type 0) → ((c : Column) → IsAllowed q c → IsEither c → IsFirst c ⊎ IsSecond c) → ExceedAtMost q (pos 0) IsFirst → IsAnswer q orders found IsSecond → IsAnswer q orders found IsEither
+answer_both q orders None IsFirst IsSecond IsEither either none a = record { none = exceed_both q (pos 0) (pos 0) IsFirst IsSecond IsEither (omega (arith, ints)) either none a.none; some = tt }
+answer_both q orders (Some kind) IsFirst IsSecond IsEither either none a = record { none = tt; some = a.some }
 
 -- all columns are of some of the colours ranked
-pub improved_all : (q : Problem) (worths : List ℤ) (ranking : List ℕ) (old new : Best) → IsRanking q.mill worths ranking → IsImproved q old new (IsOfSet q.mill [] (left_of ranking (length ranking)) q.mill.colour_limit) → IsGreatest q.mill q.decisions q.prices new.excess
-improved_all q worths ranking old new ranked i c legal agrees = i.most c (record { legal = legal; agrees = agrees }) (column_set q.mill worths ranking c ranked legal)
-
-pub improved_first : (q : Problem) (old new : Best) (IsSo : Column → Type 0) → old.excess ≡ pos 0 → IsImproved q old new IsSo → IsBest q new
-improved_first q old new IsSo none i = i.kept (inl none)
-
-pub worst_found : (q : Problem) (best : Best) (found : Option Found) → IsBest q best → IsGreatest q.mill q.decisions q.prices best.excess → IfSome found (λ f. f ≡ as_found best) → IfSome found (λ _. pos 0 <ℤ best.excess) → IfSome found (IsWorst q.mill q.decisions q.prices)
-worst_found q best None is greatest same above = tt
-worst_found q best (Some f) is greatest same above = subst (IsWorst q.mill q.decisions q.prices) (sym same) (record { found = at is; greatest = greatest })
-  where
-    at : IsBest q best → IsFound q.mill q.decisions q.prices (as_found best)
-    at (inl none) = absurd (omega (arith, ints, none, above))
-    at (inr ok) = ok
-
-pub none_found : (q : Problem) (best : Best) (found : Option Found) → IsGreatest q.mill q.decisions q.prices best.excess → IfNone found (pos 0 <ℤ best.excess → ⊥) → IfNone found (IsGreatest q.mill q.decisions q.prices (pos 0))
-none_found q best (Some f) greatest none = tt
-none_found q best None greatest none = λ c legal agrees. at_most _ best.excess (pos 0) (greatest c legal agrees) (by_lt_z (pos 0) best.excess (λ above. absurd (none above)) (λ small. small))
+pub answer_all : (q : Problem) (worths : List ℤ) (ranking orders : List ℕ) (found : Option Kind) → IsRanking q.mill worths ranking → IsAnswer q orders found (IsOfSet q.mill [] (left_of ranking (length ranking)) q.mill.colour_limit) → IfNone found (NoneExceeds q.mill q.decisions q.prices)
+answer_all q worths ranking orders (Some kind) ranked a = tt
+answer_all q worths ranking orders None ranked a = λ c legal agrees. priced_from_excess q.mill q.prices c (a.none c (record { legal = legal; agrees = agrees }) (column_set q.mill worths ranking c ranked legal))

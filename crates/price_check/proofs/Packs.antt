@@ -12,14 +12,9 @@ use Rattle.mill_model.proofs.Bars.{new_bars_none}
 use Rattle.mill_model.proofs.Sizes.{column_agrees_any_size}
 use Rattle.pricing_laws.specs.Gains.{cost_of}
 use Rattle.pricing_laws.specs.Problems.{Problem, IsAllowed, ExceedAtMost, excess}
-use Rattle.pricing_laws.proofs.Excesses.{cost_rises, excess_split}
-use Rattle.price_check.specs.declared.best.Best.{Best}
-use Rattle.price_check.specs.Finds.{IsBest, IsColumn, IsOnNew, IsOnYard, IsPack}
-use Rattle.price_check.specs.Excess.{IsFound}
-
-pub best_sign : (q : Problem) (best : Best) → IsBest q best → pos 0 ≤ℤ best.excess
-best_sign q best (inl none) = omega (arith, ints, none)
-best_sign q best (inr found) = omega (arith, ints, found.above)
+use Rattle.pricing_laws.proofs.Excesses.{cost_rises, excess_from_priced, excess_split}
+use Rattle.price_check.specs.Exceeding.{IsExceeding}
+use Rattle.price_check.specs.Finds.{IsColumn, IsOnNew, IsOnYard, IsPack}
 
 module _ (q : Problem) (orders : List ℕ) (weight : ℕ) (gain : ℤ) (pack : IsPack q orders weight gain) where
   column : Kind → Column
@@ -32,21 +27,15 @@ module _ (q : Problem) (orders : List ℕ) (weight : ℕ) (gain : ℤ) (pack : I
   pack_legal : (kind : Kind) → IsInStock q.mill kind → weight ≤ size_of q.mill kind → has_barred q.mill (record { kind = kind; orders = orders }) ≡ false → IsLegalColumn q.mill (record { kind = kind; orders = orders })
   pack_legal kind stock holds free = record { fits = record { kind = stock; some = pack.some; weight = omega (arith, pack.load_is, holds); colours = pack.colours; bars = free }; rises = pack.rises }
 
-  -- the orders are a column found
-  pub pack_found : (kind : Kind) (best : Best) → IsInStock q.mill kind → weight ≤ size_of q.mill kind → IsOfLeastSize q.mill weight kind → has_barred q.mill (record { kind = kind; orders = orders }) ≡ false
-      → column_agrees q.decisions (record { kind = kind; orders = orders }) ≡ true → pos 0 <ℤ best.excess → best.kind ≡ kind → best.orders.items ≡ orders → best.excess ≡ gain -ℤ cost_of q.mill q.prices kind → IsBest q best
-  pack_found kind best stock holds least free agrees above k o e =
-      inr (
-      subst (λ (x : Kind). IsFound q.mill q.decisions q.prices (record { kind = x; orders = best.orders.items; excess = best.excess })) (sym k)
-      (subst (λ (os : List ℕ). IsFound q.mill q.decisions q.prices (record { kind = kind; orders = os; excess = best.excess })) (sym o)
-      (record {
-        legal = pack_legal kind stock holds free;
-        agrees = agrees;
-        excess_is = e ∙ pack_excess kind holds;
-        above = above;
-        least_size = subst (λ (n : ℕ). IsOfLeastSize q.mill n kind) pack.load_is least;
-      }))
-      )
+  -- the orders exceed
+  pub pack_exceeds : (kind : Kind) → IsInStock q.mill kind → weight ≤ size_of q.mill kind → IsOfLeastSize q.mill weight kind → has_barred q.mill (record { kind = kind; orders = orders }) ≡ false
+      → column_agrees q.decisions (record { kind = kind; orders = orders }) ≡ true → cost_of q.mill q.prices kind <ℤ gain → IsExceeding q.mill q.decisions q.prices (record { kind = kind; orders = orders })
+  pack_exceeds kind stock holds least free agrees above = record {
+    legal = pack_legal kind stock holds free;
+    agrees = agrees;
+    exceeds = λ priced. absurd (omega (arith, ints, above, pack_excess kind holds, excess_from_priced q.mill q.prices (record { kind = kind; orders = orders }) priced));
+    least = subst (λ (n : ℕ). IsOfLeastSize q.mill n kind) pack.load_is least;
+  }
 
   -- a slab that holds them
   pub pack_on : (kind : Kind) (most : ℤ) → weight ≤ size_of q.mill kind → (gain -ℤ cost_of q.mill q.prices kind) ≤ℤ most → ExceedAtMost q most (IsColumn kind orders)

@@ -46,14 +46,14 @@ impl Leaf<'_> {
             IsExceeding self.now.mill.now self.now.trail.now.decisions self.now.quote.now
                 (record { kind = kind; orders = workspace.new.picks.orders.items })) }
     {
+        workspace.space.colours.clear();
+        workspace.picks.chosen.clear();
         self.fill_frame(&mut workspace.frame);
+        let rank = workspace.frame.ranking.len();
         let search = Search {
             leaf: *self,
             frame: &workspace.frame,
         };
-        workspace.space.colours.clear();
-        workspace.picks.chosen.clear();
-        let rank = workspace.frame.ranking.len();
         let limit = self.mill.colour_limit();
         search.search_sets(rank, limit, 0, &mut workspace.space, &mut workspace.picks)
     }

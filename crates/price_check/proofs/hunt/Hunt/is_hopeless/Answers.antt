@@ -1,4 +1,4 @@
-use Rattle.std.proofs.Common.{◌≡◌, ◌≤ℤ◌, ◌+ℤ◌, true, arith, to_z, of_z}
+use Rattle.std.proofs.Common.{◌≡◌, pos, ◌≤ℤ◌, ◌+ℤ◌, true, arith, to_z, of_z}
 use Rattle.std.specs.Prelude.{◌-ℤ◌}
 use Rattle.std.specs.Int.{w128}
 use lib.Signed.{le_z}
@@ -12,7 +12,7 @@ use Rattle.price_check.proofs.hunt.Hunt.is_hopeless.Goals as goal
 pub returns : goal.returns
 returns c =
     let h = c.args.self.now in
-    OnTrue_from _ _ (λ e. most_weaker h.search.leaf.mill.now h.search.leaf.quote.now h.search.frame.now.groups (left_of h.queue.now.heads.items c.args.left) c.args.load c.most.result (c.args.best -ℤ c.args.gain) (low e) c.most.ensures.most)
+    OnTrue_from _ _ (λ e. most_weaker h.search.leaf.mill.now h.search.leaf.quote.now h.search.frame.now.groups (left_of h.queue.now.heads.items c.args.left) c.args.load c.most.result (pos 0 -ℤ c.args.gain) (low e) c.most.ensures.most)
   where
-    low : le_z (to_z w128 (of_z w128 (to_z w128 (of_z w128 c.args.gain) +ℤ to_z w128 (of_z w128 c.most.result)))) (to_z w128 (of_z w128 c.args.best)) ≡ true → c.most.result ≤ℤ (c.args.best -ℤ c.args.gain)
-    low e = omega (arith, ints, le_true (to_z w128 (of_z w128 (to_z w128 (of_z w128 c.args.gain) +ℤ to_z w128 (of_z w128 c.most.result)))) (to_z w128 (of_z w128 c.args.best)) e, c.requires.small, c.most.ensures.small, c.ranges.best)
+    low : le_z (to_z w128 (of_z w128 (to_z w128 (of_z w128 c.args.gain) +ℤ to_z w128 (of_z w128 c.most.result)))) (pos 0) ≡ true → c.most.result ≤ℤ (pos 0 -ℤ c.args.gain)
+    low e = omega (arith, ints, le_true (to_z w128 (of_z w128 (to_z w128 (of_z w128 c.args.gain) +ℤ to_z w128 (of_z w128 c.most.result)))) (pos 0) e, c.requires.small, c.most.ensures.small)

@@ -1,6 +1,6 @@
 use Rattle.std.proofs.Common.{◌≡◌, ℕ, ◌<◌, length, get_or}
 use Rattle.price_check.specs.Frames.{colour_key}
-use Rattle.price_check.proofs.leaf.Leaf.colour_keys.Given as goal
+use Rattle.price_check.proofs.leaf.Leaf.fill_keys.Given as goal
 
 abbrev pub invariant-loop-order : goal.invariant-loop-order
 invariant-loop-order l = record {

@@ -6,7 +6,7 @@ use Rattle.pricing_laws.specs.Groupings.{Groups, AreGroups}
 use Rattle.pricing_laws.specs.Worths.{IsRanking}
 use Rattle.price_check.specs.Frames.{AreChainsOf, IsFrame, colour_key}
 use Rattle.price_check.proofs.ChainLemmas.{chains_told}
-use Rattle.price_check.proofs.leaf.Leaf.frame.Goals as goal
+use Rattle.price_check.proofs.leaf.Leaf.fill_frame.Goals as goal
 
 -- a list as a function
 abbrev get_or_zero : List ℕ → ℕ → ℕ

@@ -3,7 +3,7 @@ use Rattle.std.specs.Prelude.{◌-ℤ◌, unsigned_abs}
 use Rattle.mill_model.specs.declared.kind.Kind.{Kind}
 use Rattle.mill_model.specs.Columns.{IsInStock, size_of}
 use Rattle.pricing_laws.specs.Gains.{cost_of}
-use Rattle.price_check.proofs.leaf.Leaf.ends.Given as goal
+use Rattle.price_check.proofs.leaf.Leaf.fill_ends.Given as goal
 
 abbrev pub invariant-loop-load : goal.invariant-loop-load
 invariant-loop-load l = record {

@@ -9,7 +9,7 @@ use Rattle.pricing_laws.specs.Colours.{colour_at}
 use Rattle.pricing_laws.specs.Worths.{AreWorths, worth_at, worth_of}
 use Rattle.pricing_laws.proofs.Numbers.{max_small, sum_back}
 use Rattle.pricing_laws.proofs.Worths.{worths_more, worths_none, zeros}
-use Rattle.price_check.proofs.leaf.Leaf.worths.Goals as goal
+use Rattle.price_check.proofs.leaf.Leaf.fill_worths.Goals as goal
 
 pub loop-at-init : goal.loop-at-init
 loop-at-init c =

@@ -7,7 +7,7 @@ use Rattle.mill_model.specs.declared.kind.Kind.{Kind}
 use Rattle.mill_model.specs.Columns.{IsInStock, size_of}
 use Rattle.pricing_laws.specs.Gains.{cost_of}
 use Rattle.pricing_laws.proofs.Numbers.{each_push}
-use Rattle.price_check.proofs.leaf.Leaf.ends.Goals as goal
+use Rattle.price_check.proofs.leaf.Leaf.fill_ends.Goals as goal
 
 pub loop-load-preserved : goal.loop-load-preserved
 loop-load-preserved c =

@@ -1,6 +1,6 @@
 use Rattle.std.proofs.Common.{◌≤◌, length}
 use Rattle.pricing_laws.specs.Worths.{AreWorths}
-use Rattle.price_check.proofs.leaf.Leaf.worths.Given as goal
+use Rattle.price_check.proofs.leaf.Leaf.fill_worths.Given as goal
 
 abbrev pub invariant-loop-at : goal.invariant-loop-at
 invariant-loop-at l = record {
