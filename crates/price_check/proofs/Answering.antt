@@ -34,6 +34,11 @@ pub answer_empty : (q : Problem) (orders : List ℕ) (found : Option Kind) (IsSo
 answer_empty q orders None IsSo e a = a.none
 answer_empty q orders (Some kind) IsSo e a = cc
 
+-- where none of some columns exceeds, none of others does
+pub answer_wider : (q : Problem) (orders : List ℕ) (found : Option Kind) (IsSo IsMore : Column → Type 0) → (ExceedAtMost q (pos 0) IsSo → ExceedAtMost q (pos 0) IsMore) → IsAnswer q orders found IsSo → IsAnswer q orders found IsMore
+answer_wider q orders None IsSo IsMore more a = record { none = more a.none; some = tt }
+answer_wider q orders (Some kind) IsSo IsMore more a = record { none = tt; some = a.some }
+
 -- fewer columns
 pub answer_less : (q : Problem) (orders : List ℕ) (found : Option Kind) (IsSo IsLess : Column → Type 0) → ((c : Column) → IsAllowed q c → IsLess c → IsSo c) → IsAnswer q orders found IsSo → IsAnswer q orders found IsLess
 answer_less q orders None IsSo IsLess less a = record { none = exceed_weaker q (pos 0) (pos 0) IsSo IsLess (omega (arith, ints)) less a.none; some = tt }

@@ -1,15 +1,14 @@
-use Rattle.std.proofs.Common.{ℕ, List, subst}
-use Rattle.mill_model.specs.LeastSizes.{IsLeastSize}
+use Rattle.std.proofs.Common.{pos}
+use Rattle.price_check.specs.Finds.{IsColumn, IsOnNew}
+use Rattle.mill_model.specs.declared.kind.Kind.TheVariants.{New}
 use Rattle.price_check.specs.Leaves.{problem_of}
-use Rattle.price_check.proofs.Packs.{pack_new}
+use Rattle.price_check.proofs.Answering.{answer_none, answer_wider}
+use Rattle.price_check.proofs.Packs.{pack_large, pack_new}
 use Rattle.price_check.proofs.leaf.Leaf.offer_new.Goals as goal
 
-pub returns-in-Some : goal.returns-in-Some
-returns-in-Some c =
+pub returns : goal.returns
+returns c =
     let t = c.args.self.now in
-    let least : IsLeastSize t.mill.now.sizes c.args.weight c.in-Some.size = subst (λ (xs : List ℕ). IsLeastSize xs c.args.weight c.in-Some.size) t.asked.sizes c.in-Some.ensures.some in
-    record {
-      kept = c.offer_on.ensures.kept;
-      grows = c.offer_on.ensures.grows;
-      most = pack_new (problem_of t) c.args.orders.now c.args.weight c.args.gain c.requires c.in-Some.size c.offer_on.new.best.excess t.asked.sign least c.offer_on.ensures.most;
-    }
+    let orders = c.args.orders.now in
+    answer_wider (problem_of t) orders c.offer_on.result (IsColumn (New c.in_some-size.size) orders) (IsOnNew orders)
+    (pack_new (problem_of t) orders c.args.weight c.args.gain c.requires c.in_some-size.size (pos 0) t.asked.sign c.in_some-size.ensures.some) c.offer_on.ensures
