@@ -13,7 +13,7 @@ use Rattle.mill_model.specs.Prices.{Prices, IsPrice, ArePrices, Refutes}
 use Rattle.price_check.specs.Numbers.{prices_of}
 use Rattle.price_check.specs.Rules.{HasCount, HasSigns, HasLimits, IsWorth}
 use Rattle.price_check.specs.Exceeding.{NoneExceeds, IsExceeding}
-use Rattle.price_check.specs.Leaves.{IsAsked}
+use Rattle.price_check.specs.Asked.{IsAsked}
 use Rattle.cert_view.specs.Number.{IsWithin}
 use Rattle.price_check.proofs.Quotes.{ArePrices-from_quoted}
 

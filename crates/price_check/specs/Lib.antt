@@ -5,6 +5,7 @@ pub mod Rules
 pub mod Exceeding
 pub mod Groupings
 pub mod Apartness
+pub mod Asked
 pub mod Leaves
 pub mod Chains
 pub mod Frames

@@ -1,12 +1,9 @@
 //! What stands through the test of a leaf.
-ghost use Rattle.std.specs.Prelude.{◌≡◌, ◌+◌, ◌≤◌, IfOk, length, vec_capacity};
-ghost use Rattle.price_check.specs.Frames.{AreColourKeys, IsFrame};
-ghost use Rattle.price_check.specs.Ready.{HasFrameRoom};
+ghost use Rattle.std.specs.Prelude.{◌≡◌, ◌*◌, ◌≤◌, IfOk, length, vec_capacity};
+ghost use Rattle.pricing_laws.specs.Groupings.{HasRoom};
 
-use crate::apart::fill_apart;
 use crate::chains::Chains;
 use crate::groups::Groups;
-use crate::leaf::Leaf;
 use std::alloc::{AllocError, Global};
 
 /// What stands through the test of a leaf.
@@ -39,7 +36,8 @@ impl Frame {
     /// Room for so many orders.
     pub(crate) fn new(alloc: Global, orders: usize) -> Result<Frame, AllocError>
         requires { orders ≤ 250 }
-        ensures { IfOk result (HasFrameRoom orders) }
+        ensures groups { IfOk result (λ frame. HasRoom orders frame.groups) }
+        ensures apart { IfOk result (λ frame. length frame.apart.items ≡ orders * orders) }
     {
         Ok(Frame {
             groups: Groups::new(alloc, orders)?,
@@ -52,43 +50,5 @@ impl Frame {
             ranking: Vec::with_capacity(alloc, 250)?,
             floor: 0,
         })
-    }
-}
-
-impl Leaf<'_> {
-    /// For each head its colour, and 0 for other orders.
-    fn fill_keys(&self, heads: &[u16], keys: &mut Vec<u16>)
-        requires size { length heads.now ≡ length self.now.mill.now.orders }
-        requires room { 250 ≤ vec_capacity keys.old }
-        ensures size { length keys.new.items ≡ length heads.now }
-        ensures keys { AreColourKeys self.now.mill.now heads.now keys.new.items }
-        ensures room { vec_capacity keys.new ≡ vec_capacity keys.old }
-    {
-        keys.clear();
-        for (order, head) in heads.iter().enumerate() {
-            if usize::from(*head) == order {
-                keys.push_reserved(self.mill.orders()[order].colour);
-            } else {
-                keys.push_reserved(0);
-            }
-        }
-    }
-
-    /// Fills in what stands through the test.
-    pub(crate) fn fill_frame(&self, frame: &mut Frame)
-        requires { HasFrameRoom (length self.now.mill.now.orders) frame.old }
-        ensures frame { IsFrame self.now frame.new }
-        ensures room { HasFrameRoom (length self.now.mill.now.orders) frame.new }
-    {
-        let count = self.mill.orders().len();
-        frame.groups.form(self.mill, self.trail, self.quote);
-        fill_apart(self.trail, frame.groups.heads(), &mut frame.apart);
-        self.fill_keys(frame.groups.heads(), &mut frame.keys);
-        frame.by_colour.fill(&frame.keys, usize::from(self.mill.colours()) + 1);
-        frame.by_head.fill(frame.groups.heads(), count);
-        self.fill_ends(&mut frame.ends);
-        self.fill_worths(&frame.groups, &mut frame.worths);
-        self.fill_ranking(&frame.worths, &mut frame.ranking);
-        frame.floor = self.least_charge();
     }
 }

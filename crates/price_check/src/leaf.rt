@@ -1,5 +1,5 @@
 //! A leaf: a mill with the decisions and the prices there.
-ghost use Rattle.price_check.specs.Leaves.{IsAsked};
+ghost use Rattle.price_check.specs.Asked.{IsAsked};
 
 use crate::quote::Quote;
 use crate::trail::Trail;

@@ -2,7 +2,8 @@
 //!
 //! The modules are read in this order: `path` (what others call), `trail` and `questions` (the decisions), `quote` and `rules`
 //! (the numbers of a leaf), `leaf` and `costs` (a mill with its decisions and prices), `groups`, `gains` and `apart` (orders
-//! that move as one), `frame` with `chains`, `ends`, `worths` and `ranking` (what stands through a test), `sets`, `gather`,
+//! that move as one), `frame` and `prepare` with `chains`, `links`, `ends`, `worths` and
+//! `ranking` (what stands through a test), `sets`, `gather`,
 //! `grid` and `table` (sets of colours and their groups), `walk` and `offer` (the columns of a set).
 #![tactic(auto)]
 
@@ -18,9 +19,11 @@ mod grid;
 mod groups;
 mod hunt;
 mod leaf;
+mod links;
 mod offer;
 mod path;
 mod picks;
+mod prepare;
 mod questions;
 mod queue;
 mod quote;

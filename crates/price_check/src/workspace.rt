@@ -1,5 +1,5 @@
 //! Room for the test of a leaf.
-ghost use Rattle.std.specs.Prelude.{◌≡◌, ◌+◌, ◌≤◌, IfOk};
+ghost use Rattle.std.specs.Prelude.{◌≤◌, IfOk, IfNone, IfSome, length};
 ghost use Rattle.price_check.specs.Exceeding.{NoneExceeds, IsExceeding};
 ghost use Rattle.price_check.specs.Ready.{HasSpace};
 

@@ -14,10 +14,11 @@ use Rattle.price_check.proofs.leaf.Leaf.fill_worths.Goals as goal
 pub loop-at-init : goal.loop-at-init
 loop-at-init c =
     let t = c.args.self.now in
-    let made : c.in_ok-worths.worths.items ≡ replicate (t.mill.now.colours + 1) (pos 0) = c.in_ok-worths.ensures.items_if_clones_equal (λ y h. search rules) ∙ ap (λ n. replicate (n + 1) (pos 0)) c.colours.ensures.value in
+    let made : c.clear_worths.new.worths.items ≡ replicate (t.mill.now.colours + 1) (pos 0) = c.clear_worths.ensures.items ∙ ap (λ n. replicate (n + 1) (pos 0)) c.colours.ensures.value in
     record {
+      room = c.clear_worths.ensures.room;
       within = omega (arith, ap (λ (os : List Order). length os) c.orders-at.ensures.value);
-      worths = subst (λ (n : ℕ). AreWorths t.mill.now t.quote.now c.args.groups.now n c.in_ok-worths.worths.items) (ap (λ (os : List Order). length os) (sym c.orders-at.ensures.value)) (subst (AreWorths t.mill.now t.quote.now c.args.groups.now (length t.mill.now.orders)) (sym made)
+      worths = subst (λ (n : ℕ). AreWorths t.mill.now t.quote.now c.args.groups.now n c.clear_worths.new.worths.items) (ap (λ (os : List Order). length os) (sym c.orders-at.ensures.value)) (subst (AreWorths t.mill.now t.quote.now c.args.groups.now (length t.mill.now.orders)) (sym made)
           (worths_none t.mill.now t.quote.now c.args.groups.now (replicate (t.mill.now.colours + 1) (pos 0)) (length-replicate (t.mill.now.colours + 1) (pos 0)) (zeros (t.mill.now.colours + 1))));
     }
 
@@ -51,6 +52,7 @@ loop-at-preserved c =
     let sign : pos 0 ≤ℤ c.max.result = omega (arith, ints, c.max.ensures.other_bound) in
     let worths : AreWorths t.mill.now t.quote.now c.args.groups.now (c.loop-at.at - 1 + 1) c.loop-at.worths.items = subst (λ (k : ℕ). AreWorths t.mill.now t.quote.now c.args.groups.now k c.loop-at.worths.items) next c.loop-at.invariant.worths in
     record {
+      room = c.loop-at.invariant.room;
       within = omega (arith, c.loop-at.invariant.within);
       worths = rw c.orders.ensures.value (subst (λ (z : ℤ). AreWorths t.mill.now t.quote.now c.args.groups.now (c.loop-at.at - 1) (set c.loop-at.worths.items (colour_at t.mill.now (c.loop-at.at - 1)) z))
           (sym (sum_back c.index.result.now c.max.result (worth_of c.loop-at.worths.items (colour_at t.mill.now (c.loop-at.at - 1))) c.max.result read refl (omega (arith, entry)) (omega (arith, small))))

@@ -29,8 +29,8 @@ low : (worth product exact floor : ℤ) → product ≡ exact → unsigned_abs e
     → le_z (to_z w128 (of_z w128 (to_z w128 (of_z w128 worth) +ℤ product))) (to_z w128 (of_z w128 floor)) ≡ true → ((worth +ℤ exact) -ℤ floor) ≤ℤ pos 0
 low worth product exact floor same few small least e = omega (arith, ints, le_true (to_z w128 (of_z w128 (to_z w128 (of_z w128 worth) +ℤ product))) (to_z w128 (of_z w128 floor)) e)
 
-pub overflow_add : goal.overflow_add
-overflow_add c =
+pub overflow_add-result : goal.overflow_add-result
+overflow_add-result c =
     let left = c.args.left in
     let top = c.top.result in
     omega (arith, ints, product_back left top c.from.result c.requires.left c.top.ensures.small c.from.ensures, few_small left top c.requires.left c.top.ensures.small, c.requires.small)

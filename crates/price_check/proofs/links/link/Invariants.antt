@@ -1,6 +1,6 @@
 use Rattle.std.proofs.Common.{◌≡◌, ◌≤◌, length, slice_index}
 use Rattle.price_check.specs.Chains.{IsChainedFrom}
-use Rattle.price_check.proofs.chains.link.Given as goal
+use Rattle.price_check.proofs.links.link.Given as goal
 
 abbrev pub invariant-loop-at : goal.invariant-loop-at
 invariant-loop-at l = record {
