@@ -6,14 +6,14 @@ use Rattle.std.proofs.lemmas.List.Elements.{All-weaker}
 use Rattle.mill_model.specs.declared.kind.Kind.{Kind}
 use Rattle.std.proofs.lemmas.List.{length-take, length-drop}
 use Rattle.mill_model.specs.declared.limits.Limits.{Limits}
-use Rattle.mill_model.specs.Mill.{Mill}
+use Rattle.mill_model.specs.Mill.{Mill, IsInLimits}
 use Rattle.mill_model.specs.Columns.{Column}
 use Rattle.mill_model.specs.Decisions.{Decision}
 use Rattle.mill_model.specs.Prices.{Prices, IsPrice, ArePrices, Refutes}
 use Rattle.price_check.specs.Numbers.{prices_of}
 use Rattle.price_check.specs.Rules.{HasCount, HasSigns, HasLimits, IsWorth}
 use Rattle.price_check.specs.Exceeding.{NoneExceeds, IsExceeding}
-use Rattle.price_check.specs.Search.{AreSet}
+use Rattle.price_check.specs.Asked.{IsAsked}
 use Rattle.cert_view.specs.Number.{IsWithin}
 use Rattle.price_check.proofs.Quotes.{ArePrices-from_quoted}
 
@@ -24,9 +24,6 @@ pub sigma_length : (n s : ℕ) (numbers : List ℤ) → length numbers ≡ 2 + n
 sigma_length n s numbers e = omega (arith, length-drop (2 + n) numbers, e)
 
 module _ (m : Mill) (limits : Limits) (decisions : List Decision) (numbers : List ℤ) (count : HasCount m numbers) where
-  pub set_of : HasSigns (prices_of (length m.orders) numbers) → AreSet m (prices_of (length m.orders) numbers)
-  set_of signs = record { pi_length = pi_length (length m.orders) (length m.yard) numbers count; sigma_length = sigma_length (length m.orders) (length m.yard) numbers count; lambda_sign = signs.0 }
-
   pub refutes_from : ArePrices (prices_of (length m.orders) numbers) → HasSigns (prices_of (length m.orders) numbers) → HasLimits limits (prices_of (length m.orders) numbers) → IsWorth limits (prices_of (length m.orders) numbers) → NoneExceeds m decisions (prices_of (length m.orders) numbers)
       → Refutes m limits decisions (prices_of (length m.orders) numbers)
   refutes_from range signs missing worth none = record {
@@ -48,6 +45,10 @@ not_none m decisions p c exceeding none = exceeding.exceeds (none c exceeding.le
 pub found_exceeds : (m : Mill) (decisions : List Decision) (p : Prices) (found : Option Kind) (orders : List ℕ) → is_some found ≡ true → IfSome found (λ kind. IsExceeding m decisions p (record { kind = kind; orders = orders })) → NoneExceeds m decisions p → ⊥
 found_exceeds m decisions p None orders some exceeding none = cc
 found_exceeds m decisions p (Some kind) orders some exceeding none = not_none m decisions p (record { kind = kind; orders = orders }) exceeding none
+
+-- what a leaf's search asks for
+pub asked_of : (m : Mill) (numbers : List ℤ) → IsInLimits m → HasCount m numbers → HasSigns (prices_of (length m.orders) numbers) → IsAsked m (prices_of (length m.orders) numbers)
+asked_of m numbers limits count signs = record { limits = limits; pi = pi_length (length m.orders) (length m.yard) numbers count; sigma = sigma_length (length m.orders) (length m.yard) numbers count; sign = signs.0 }
 
 -- numbers of a line are prices
 pub ArePrices-from_numbers : (n : ℕ) (numbers : List ℤ) → 2 + n ≤ length numbers → All IsWithin numbers → ArePrices (prices_of n numbers)

@@ -11,10 +11,3 @@ use Rattle.mill_model.specs.Columns.{IsInStock, size_of}
 pub size_of_most : (m : Mill) (most : ℕ) → ((size : ℕ) → Contains m.sizes size → size ≤ most) → ((size : ℕ) → Contains m.yard size → size ≤ most) → (kind : Kind) → IsInStock m kind → size_of m kind ≤ most
 size_of_most m most listed lying (New size) stock = listed size stock
 size_of_most m most listed lying (Old s) stock = lying _ (Contains-get_or m.yard s 0 stock)
-
--- one slab more
-pub paid_more : (Holds : ℕ → Type 0) (cost : ℕ → ℤ) (done : ℕ) (before after : ℤ) → before ≤ℤ after → (Holds done → pos 0 ≤ℤ (cost done +ℤ after)) → ((k : ℕ) → k < done → Holds k → pos 0 ≤ℤ (cost k +ℤ before)) → (k : ℕ) → k < done + 1 → Holds k → pos 0 ≤ℤ (cost k +ℤ after)
-paid_more Holds cost done before after le here all k lt holds = elim (cases_eq k done) [
-  | inl same ↦ subst (λ i. pos 0 ≤ℤ (cost i +ℤ after)) (sym same) (here (subst Holds same holds))
-  | inr ne ↦ let known : pos 0 ≤ℤ (cost k +ℤ before) = all k (omega (arith, lt, ne)) holds in omega (arith, ints, known, le)
-]

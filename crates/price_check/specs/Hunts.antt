@@ -1,35 +1,26 @@
--- What the search at a leaf goes by.
-use Rattle.std.specs.Prelude.{◌≤◌, FitsSigned, length}
-use Rattle.std.specs.Int.{w128}
-use Rattle.mill_model.specs.declared.kind.Kind.{Kind}
-use Rattle.mill_model.specs.Columns.{IsInStock, size_of}
-use Rattle.price_check.specs.declared.walk.Hunt.{Hunt}
-use Rattle.price_check.specs.declared.pair.Leaf.{Leaf}
-use Rattle.pricing_laws.specs.Groupings.{AreGroups}
-use Rattle.price_check.specs.Apartness.{AreApart}
-use Rattle.price_check.specs.Search.{AreSet, AreEnds, IsQueue}
-use Rattle.price_check.specs.Bounds.{ArePaid, ArePlusFrom, AreBounds}
+-- What a walk keeps.
+use Rattle.std.specs.Prelude.{ℕ, ℤ, List, [], ◌∷◌, ◌++◌, slice_index_or}
+use Rattle.pricing_laws.specs.Bounds.{IsMost}
+use Rattle.pricing_laws.specs.Choices.{AreChosen, IsChoice}
+use Rattle.pricing_laws.specs.Parts.{left_of}
+use Rattle.mill_model.specs.Columns.{Column}
+use Rattle.price_check.specs.declared.hunt.Hunt.{Hunt}
 
--- the prices of a leaf, its groups, and what bounds their gains
-pub record IsLeaf (l : Leaf) : Type 0 where
-  pub set : AreSet l.mill.now l.quote.now
-  pub groups : AreGroups l.mill.now l.trail.now.decisions l.quote.now l.groups.now
-  pub apart : AreApart l.trail.now.decisions (length l.mill.now.orders) l.apart.now
-  pub plus : ArePlusFrom l.mill.now l.groups.now 0 l.plus.now
-  pub ends : AreEnds l.mill.now l.quote.now l.floor l.room
-  pub fits : FitsSigned w128 l.floor
-  pub paid : ArePaid l.mill.now l.quote.now l.room l.paid.now
-  pub narrow : l.room ≤ 10000
-  pub few : length l.mill.now.orders ≤ 250
+-- the heads taken from the queue, where so many are left, with the weight and the gain of their groups
+abbrev pub AreTakenIn : Hunt → ℕ → List ℕ → ℕ → ℤ → Type 0
+AreTakenIn h left chosen weight gain = AreChosen h.search.frame.now.groups h.queue.now.heads.items left chosen weight gain
 
--- two colours, the groups of them, and a table of bounds
-pub record IsHunt (h : Hunt) : Type 0 where
-  pub set : AreSet h.mill.now h.quote.now
-  pub groups : AreGroups h.mill.now h.trail.now.decisions h.quote.now h.groups.now
-  pub apart : AreApart h.trail.now.decisions (length h.mill.now.orders) h.apart.now
-  pub queue : IsQueue h.mill.now h.groups.now.heads h.first h.second h.queue.now
-  pub paid : ArePaid h.mill.now h.quote.now h.room h.paid.now
-  pub bounds : AreBounds h.mill.now h.quote.now h.groups.now h.queue.now h.room h.step h.width h.cells.now
-  pub most_size : (kind : Kind) → IsInStock h.mill.now kind → size_of h.mill.now kind ≤ h.room
-  pub narrow : h.room ≤ 10000
-  pub few : length h.mill.now.orders ≤ 250
+-- a bound on what those left gain beside a load
+abbrev pub IsMostIn : Hunt → ℕ → ℕ → ℤ → Type 0
+IsMostIn h left load most = IsMost h.search.leaf.mill.now h.search.leaf.quote.now h.search.frame.now.groups (left_of h.queue.now.heads.items left) load most
+
+-- a column of the groups taken and of some of those left
+abbrev pub IsChoiceIn : Hunt → List ℕ → ℕ → Column → Type 0
+IsChoiceIn h chosen left c = IsChoice h.search.frame.now.groups.heads chosen (left_of h.queue.now.heads.items left) c
+
+-- the same with the group at a place of the queue
+abbrev pub AreTakenWith : Hunt → ℕ → List ℕ → ℕ → ℤ → Type 0
+AreTakenWith h at chosen weight gain = AreTakenIn h at (chosen ++ slice_index_or h.queue.now.heads.items at 0 ∷ []) weight gain
+
+abbrev pub IsChoiceWith : Hunt → List ℕ → ℕ → Column → Type 0
+IsChoiceWith h chosen at c = IsChoiceIn h (chosen ++ slice_index_or h.queue.now.heads.items at 0 ∷ []) at c

@@ -1,20 +1,14 @@
--- What a path keeps for the test of a leaf.
-use Rattle.std.specs.Prelude.{◌≡◌, ℕ, ◌≤◌, List, length, Option, option_map}
+-- A leaf as a pricing problem.
+use Rattle.std.specs.Prelude.{ℕ, ◌≤◌, ℤ, pos, ◌-ℤ◌, ◌≤ℤ◌}
 use Rattle.mill_model.specs.declared.kind.Kind.{Kind}
-use Rattle.mill_model.specs.Prices.{Prices}
-use Rattle.price_check.specs.declared.search.Workspace.{Workspace}
-use Rattle.price_check.specs.Path.{Path, Trail}
-use Rattle.price_check.specs.Spaces.{HasSpace}
+use Rattle.mill_model.specs.Columns.{IsInStock, size_of}
+use Rattle.pricing_laws.specs.Gains.{cost_of}
+use Rattle.pricing_laws.specs.Problems.{Problem}
+use Rattle.price_check.specs.declared.leaf.Leaf.{Leaf}
 
--- a path by its decisions, and the slab and the orders of the column that was found
-abbrev pub seen_path : Trail → Option Kind → List ℕ → Path
-seen_path trail bad orders = record { orders = trail.orders; slabs = trail.slabs; decisions = trail.decisions; bad = option_map (λ (kind : Kind). record { kind = kind; orders = orders }) bad }
+abbrev pub problem_of : Leaf → Problem
+problem_of t = record { mill = t.mill.now; decisions = t.trail.now.decisions; prices = t.quote.now }
 
--- there is room for the prices, for the search of a column that exceeds, and for the orders of one
-pub record IsReady (trail : Trail) (quote : Prices) (space : Workspace) (capacity : ℕ) : Type 0 where
-  pub few_orders : trail.orders ≤ 250
-  pub few_slabs : trail.slabs ≤ 40
-  pub pi_length : length quote.pi ≡ trail.orders
-  pub sigma_length : length quote.sigma ≡ trail.slabs
-  pub workspace : HasSpace trail.orders space
-  pub room : trail.orders ≤ capacity
+-- the slab costs no less than this with its sign turned, if it holds the load
+abbrev pub IsEndOf : Leaf → ℕ → Kind → ℤ → Type 0
+IsEndOf t load kind end = IsInStock t.mill.now kind → load ≤ size_of t.mill.now kind → (pos 0 -ℤ cost_of t.mill.now t.quote.now kind) ≤ℤ end

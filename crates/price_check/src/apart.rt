@@ -1,12 +1,14 @@
 //! Groups that decisions keep apart.
-ghost use Rattle.std.specs.Prelude.{◌≡◌, ◌*◌, ◌≤◌, List, true, false, length};
+ghost use Rattle.std.specs.Prelude.{◌≡◌, ◌*◌, ◌<◌, ◌≤◌, ℕ, List, true, false, length};
+ghost use Rattle.std.specs.Bool.{OnTrue};
 ghost use Rattle.mill_model.specs.declared.ask.Ask.{Ask};
-ghost use Rattle.mill_model.specs.Columns.{Column};
+ghost use Rattle.mill_model.specs.Columns.{Column, has};
 ghost use Rattle.mill_model.specs.Decisions.{Decision, agrees, column_agrees};
-ghost use Rattle.pricing_laws.specs.Groups.{AreHeads};
+ghost use Rattle.pricing_laws.specs.Groups.{AreHeads, IsApart};
 ghost use Rattle.pricing_laws.specs.Groupings.{AreBefore};
-ghost use Rattle.price_check.specs.Apartness.{AreApart};
+ghost use Rattle.price_check.specs.Apartness.{AreMarkedApart};
 
+use crate::search::Search;
 use crate::trail::Trail;
 use mill_model::Ask;
 
@@ -15,7 +17,7 @@ pub(crate) fn fill_apart(trail: &Trail, heads: &[u16], apart: &mut [bool])
     requires heads { AreHeads trail.now.decisions heads.now }
     requires few { length heads.now ≤ 250 }
     requires size { length apart.old ≡ length heads.now * length heads.now }
-    ensures { AreApart trail.now.decisions (length heads.now) apart.new }
+    ensures { AreMarkedApart trail.now.decisions (length heads.now) apart.new }
 {
     apart.fill(false);
     for (ask, answer) in trail.decisions() {
@@ -29,7 +31,7 @@ fn keep_apart(ask: Ask, answer: bool, heads: &[u16], apart: &mut [bool])
     requires few { length heads.now ≤ 250 }
     requires size { length apart.old ≡ length heads.now * length heads.now }
     ensures size { length apart.new ≡ length apart.old }
-    ensures apart { (decisions : List Decision) → AreHeads decisions heads.now → ((c : Column) → column_agrees decisions c ≡ true → agrees c (ask, answer) ≡ true) → AreApart decisions (length heads.now) apart.old → AreApart decisions (length heads.now) apart.new }
+    ensures apart { (decisions : List Decision) → AreHeads decisions heads.now → ((c : Column) → column_agrees decisions c ≡ true → agrees c (ask, answer) ≡ true) → AreMarkedApart decisions (length heads.now) apart.old → AreMarkedApart decisions (length heads.now) apart.new }
 {
     if let (Ask::Pair(i, j), false) = (ask, answer) {
         mark_pair(i, j, heads, apart);
@@ -42,7 +44,7 @@ fn mark_pair(i: u16, j: u16, heads: &[u16], apart: &mut [bool])
     requires few { length heads.now ≤ 250 }
     requires size { length apart.old ≡ length heads.now * length heads.now }
     ensures size { length apart.new ≡ length apart.old }
-    ensures apart { (decisions : List Decision) → AreHeads decisions heads.now → ((c : Column) → column_agrees decisions c ≡ true → agrees c (Ask.Pair i j, false) ≡ true) → AreApart decisions (length heads.now) apart.old → AreApart decisions (length heads.now) apart.new }
+    ensures apart { (decisions : List Decision) → AreHeads decisions heads.now → ((c : Column) → column_agrees decisions c ≡ true → agrees c (Ask.Pair i j, false) ≡ true) → AreMarkedApart decisions (length heads.now) apart.old → AreMarkedApart decisions (length heads.now) apart.new }
 {
     let orders = heads.len();
     let (i, j) = (usize::from(i), usize::from(j));
@@ -53,4 +55,22 @@ fn mark_pair(i: u16, j: u16, heads: &[u16], apart: &mut [bool])
     let second = usize::from(heads[j]);
     apart[first * orders + second] = true;
     apart[second * orders + first] = true;
+}
+
+impl Search<'_> {
+    /// Whether a decision keeps a head apart from one of some others.
+    pub(crate) fn is_apart(&self, others: &[u16], head: u16) -> bool
+        requires head { head < length self.now.leaf.mill.now.orders }
+        requires others { (other : ℕ) → has others.now other ≡ true
+            → other < length self.now.leaf.mill.now.orders }
+        ensures { OnTrue result (IsApart self.now.leaf.trail.now.decisions others.now head) }
+    {
+        let orders = self.leaf.mill.orders().len();
+        for &other in others {
+            if self.frame.apart[usize::from(other) * orders + usize::from(head)] {
+                return true;
+            }
+        }
+        false
+    }
 }

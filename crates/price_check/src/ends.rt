@@ -1,63 +1,89 @@
-//! The least cost and the most size of a slab.
-ghost use Rattle.std.specs.Prelude.{◌≡◌, ◌+◌, ◌<◌, ◌≤◌, ℕ, pos, ◌≤ℤ◌, length, All, Contains};
+//! What slabs cost at least, by the load that they hold.
+ghost use Rattle.std.specs.Prelude.{◌≡◌, ◌+◌, ◌^◌, ◌<◌, ◌≤◌, ℕ, pos, ◌-ℤ◌, ◌≤ℤ◌, unsigned_abs, All, length, vec_capacity};
 ghost use Rattle.mill_model.specs.declared.kind.Kind.{Kind};
 ghost use Rattle.mill_model.specs.Columns.{IsInStock, size_of};
-ghost use Rattle.pricing_laws.specs.Gains.{cost_of};
+ghost use Rattle.pricing_laws.specs.Bounds.{AreEnds};
+ghost use Rattle.price_check.specs.Leaves.{IsEndOf};
 
-use crate::gains::{cost_of_new, cost_of_old};
-use crate::quote::Quote;
-use mill_model::Mill;
+use crate::leaf::Leaf;
+use crate::sizes::least_size;
+use mill_model::{Kind, Mill};
 
-// At most what each new slab costs.
-fn least_new_cost(mill: &Mill, quote: &Quote) -> i128
-    ensures { (size : ℕ) → Contains mill.now.sizes size → result ≤ℤ cost_of mill.now quote.now (Kind.New size) }
-{
-    let mut least = i128::MAX;
-    for size in mill.sizes() {
-        least = least.min(cost_of_new(quote, *size));
-    }
-    least
-}
+/// Less than the cost of any slab, with its sign turned.
+const LEAST: i128 = -1_237_940_039_285_380_274_899_124_224;
 
-// At most what each surplus slab costs.
-fn least_old_cost(mill: &Mill, quote: &Quote) -> i128
-    requires { length quote.now.sigma ≡ length mill.now.yard }
-    ensures { (slab : ℕ) → slab < length mill.now.yard → result ≤ℤ cost_of mill.now quote.now (Kind.Old slab) }
-{
-    let mut least = i128::MAX;
-    for slab in 0..mill.yard().len() {
-        least = least.min(cost_of_old(mill, quote, slab));
-    }
-    least
-}
-
-// At most what each slab costs.
-pub(crate) fn least_cost(mill: &Mill, quote: &Quote) -> i128
-    requires { length quote.now.sigma ≡ length mill.now.yard }
-    ensures { (kind : Kind) → IsInStock mill.now kind → result ≤ℤ cost_of mill.now quote.now kind }
-{
-    least_new_cost(mill, quote).min(least_old_cost(mill, quote))
-}
-
-// The greatest of some sizes, and no less than a first one.
+/// The greatest of some sizes, and no less than a first one.
 fn greatest(sizes: &[u16], first: u16) -> u16
     requires first { first ≤ 10000 }
     requires sizes { All (λ size. size ≤ 10000) sizes.now }
-    ensures all { (size : ℕ) → Contains sizes.now size → size ≤ result }
+    ensures all { All (λ size. size ≤ result) sizes.now }
     ensures first { first ≤ result }
     ensures within { result ≤ 10000 }
 {
     let mut most = first;
-    for size in sizes {
-        most = most.max(*size);
+    for &size in sizes {
+        most = most.max(size);
     }
     most
 }
 
-// At least the size of each slab.
-pub(crate) fn most_size(mill: &Mill) -> u16
+/// At least the size of each slab.
+pub(crate) fn room_of(mill: &Mill) -> u16
     ensures most { (kind : Kind) → IsInStock mill.now kind → size_of mill.now kind ≤ result }
     ensures within { result ≤ 10000 }
 {
     greatest(mill.yard(), greatest(mill.sizes(), 0))
+}
+
+impl Leaf<'_> {
+    /// What a new slab that holds the load costs at least, with its sign turned.
+    fn end_of_new(&self, load: u32) -> i128
+        ensures most { (size : ℕ) → IsEndOf self.now load (Kind.New size) result }
+        ensures small { unsigned_abs result ≤ 2 ^ 90 }
+    {
+        match least_size(self.mill.sizes(), load) {
+            Some(size) => -self.cost(Kind::New(size)),
+            None => LEAST,
+        }
+    }
+
+    /// The cost of a surplus slab, with its sign turned, where it holds the load and costs less than what was found before.
+    fn end_of_old(&self, load: u32, slab: u16, before: i128) -> i128
+        requires stock { slab < length self.now.mill.now.yard }
+        requires small { unsigned_abs before ≤ 2 ^ 90 }
+        ensures most { IsEndOf self.now load (Kind.Old slab) result }
+        ensures grows { before ≤ℤ result }
+        ensures small { unsigned_abs result ≤ 2 ^ 90 }
+    {
+        if load > u32::from(self.size(Kind::Old(slab))) {
+            return before;
+        }
+        before.max(-self.cost(Kind::Old(slab)))
+    }
+
+    /// What a slab that holds the load costs at least, with its sign turned.
+    fn end(&self, load: u32) -> i128
+        ensures most { (kind : Kind) → IsEndOf self.now load kind result }
+        ensures small { unsigned_abs result ≤ 2 ^ 90 }
+    {
+        let mut end = self.end_of_new(load);
+        let count = self.mill.yard().len();
+        for slab in 0..count {
+            end = self.end_of_old(load, slab as u16, end);
+        }
+        end
+    }
+
+    /// For each load up to the greatest size what a slab that holds it costs at least, with its sign turned.
+    pub(crate) fn fill_ends(&self, ends: &mut Vec<i128>)
+        requires { 10001 ≤ vec_capacity ends.old }
+        ensures ends { AreEnds self.now.mill.now self.now.quote.now ends.new.items }
+        ensures room { vec_capacity ends.new ≡ vec_capacity ends.old }
+    {
+        let room = u32::from(room_of(self.mill));
+        ends.clear();
+        for load in 0..room + 1 {
+            ends.push_reserved(self.end(load));
+        }
+    }
 }

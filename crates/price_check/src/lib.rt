@@ -1,26 +1,44 @@
 //! The leaves of a certificate: the path of decisions down to one, and whether its prices refute the limits there.
+//!
+//! The modules are read in this order: `path` (what others call), `trail` and `questions` (the decisions), `quote` and `rules`
+//! (the numbers of a leaf), `leaf` and `costs` (a mill with its decisions and prices), `groups`, `gains` and `apart` (orders
+//! that move as one), `frame` and `prepare` with `chains`, `links`, `ends`, `worths` and
+//! `ranking` (what stands through a test), `sets`, `gather`,
+//! `grid` and `table` (sets of colours and their groups), `walk` and `offer` (the columns of a set).
 #![tactic(auto)]
 
 mod apart;
 mod bad;
-mod bounds;
+mod chains;
+mod costs;
 mod ends;
+mod frame;
 mod gains;
+mod gather;
+mod grid;
 mod groups;
-mod paid;
-mod pair;
+mod hunt;
+mod leaf;
+mod links;
+mod offer;
 mod path;
-mod plus;
+mod picks;
+mod prepare;
 mod questions;
 mod queue;
 mod quote;
+mod ranking;
 mod rules;
 mod search;
+mod sets;
 mod sizes;
+mod table;
 #[cfg(test)]
 mod tests;
 mod trail;
 mod walk;
+mod workspace;
+mod worths;
 
 pub use bad::Bad;
 pub use path::Path;

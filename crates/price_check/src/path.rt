@@ -10,11 +10,12 @@ ghost use Rattle.price_check.specs.Rules.{HasCount, BreaksFirst};
 ghost use Rattle.price_check.specs.Exceeding.{IsExceeding};
 
 use crate::bad::Bad;
-use crate::ends::most_size;
+use crate::ends::room_of;
+use crate::leaf::Leaf;
 use crate::quote::Quote;
 use crate::rules::{has_limits, has_signs, is_worth};
-use crate::search::{Workspace, search};
 use crate::trail::Trail;
+use crate::workspace::Workspace;
 use cert_view::Nums;
 use mill_model::{Ask, Kind, Limits, Mill};
 use std::alloc::{AllocError, Global};
@@ -28,7 +29,6 @@ pub struct Path {
     trail: Trail,
     quote: Quote,
     workspace: Workspace,
-    orders: Vec<u16>,
     bad: Option<Kind>,
 }
 
@@ -37,12 +37,11 @@ impl Model for Path {
 
     ghost Value = { Path };
 
-    ghost use Rattle.std.specs.Vec.{vec_capacity};
-    ghost use Rattle.price_check.specs.Leaves.{seen_path, IsReady};
+    ghost use Rattle.price_check.specs.Ready.{seen_path, IsReady};
 
-    ghost view = { λ p. seen_path p.trail p.bad p.orders.items };
+    ghost view = { λ p. seen_path p.trail p.bad p.workspace.picks.orders.items };
 
-    ghost invariant = { λ p. IsReady p.trail p.quote p.workspace (vec_capacity p.orders) };
+    ghost invariant = { λ p. IsReady p.trail p.quote p.workspace };
 }
 
 impl Path {
@@ -60,13 +59,11 @@ impl Path {
         let slabs = mill.yard().len();
         let trail = Trail::new(alloc, orders, slabs)?;
         let quote = Quote::new(alloc, orders, slabs)?;
-        let workspace = Workspace::new(alloc, orders, most_size(mill))?;
-        let places = Vec::with_capacity(alloc, orders)?;
+        let workspace = Workspace::new(alloc, orders, usize::from(room_of(mill)) + 1)?;
         Ok(Path {
             trail,
             quote,
             workspace,
-            orders: places,
             bad: None,
         })
     }
@@ -141,13 +138,12 @@ impl Path {
         if !is_worth(limits, &self.quote) {
             return Err(Bad::Sum);
         }
-        self.bad = search(
+        let leaf = Leaf {
             mill,
-            &self.trail,
-            &self.quote,
-            &mut self.workspace,
-            &mut self.orders,
-        );
+            trail: &self.trail,
+            quote: &self.quote,
+        };
+        self.bad = leaf.search(&mut self.workspace);
         if self.bad.is_some() {
             return Err(Bad::Column);
         }
@@ -161,7 +157,7 @@ impl Path {
         ensures { self.now.bad ≡ Some (record { kind = result.0; orders = result.1.now }) }
     {
         match self.bad {
-            Some(kind) => (kind, &self.orders),
+            Some(kind) => (kind, &self.workspace.picks.orders),
             None => unreachable!(),
         }
     }

@@ -1,6 +1,0 @@
-use Rattle.std.proofs.Common.{◌≡◌, ℕ, ◌<◌, get_or}
-use Rattle.price_check.specs.Search.{IsOf}
-use Rattle.price_check.proofs.queue.is_group_of.Given as goal
-
-abbrev pub invariant-loop-order : goal.invariant-loop-order
-invariant-loop-order l = (o : ℕ) → o < l.order → get_or l.heads o 0 ≡ l.head → IsOf l.mill l.first l.second o

@@ -1,0 +1,4 @@
+use Rattle.price_check.proofs.search.Search.+search_sets.Given as goal
+
+abbrev pub decreases-search_sets : goal.decreases-search_sets
+decreases-search_sets l = l.rank
