@@ -1,3 +1,4 @@
-pub mod PoolCovers
-pub mod Tallies
+pub use Rattle.slab_relax.specs.Nodes
+pub use Rattle.slab_relax.specs.Tallies
+pub use Rattle.slab_relax.specs.PoolCovers
 pub mod Turns

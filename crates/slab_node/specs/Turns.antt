@@ -1,30 +1,26 @@
 -- What one node's turn is asked and what it answers.
-use Rattle.std.specs.Prelude.{◌≡◌, ℕ, Bool, List, length}
+use Rattle.std.specs.Prelude.{◌≡◌, ℕ, Bool, List}
 use Rattle.mill_model.specs.declared.ask.Ask.{Ask}
 use Rattle.mill_model.specs.declared.limits.Limits.{Limits}
 use Rattle.mill_model.specs.Mill.{Mill}
 use Rattle.mill_model.specs.Plans.{Plan, IsLegal, IsInOrder, sums_of}
-use Rattle.mill_model.specs.Limits.{IsWithin, number_of}
+use Rattle.mill_model.specs.Limits.{IsWithin}
 use Rattle.mill_model.specs.Prices.{Prices, Refutes}
 use Rattle.mill_model.specs.Covers.{Part, IsCover}
 use Rattle.mill_model.specs.Decisions.{Decision, IsAsk, PlanAgrees}
 use Rattle.mill_model.specs.Assignments.{Follows}
-use Rattle.slab_master.specs.Given.{IsSmall}
 use Rattle.slab_columns.specs.Pool.{Pool}
 use Rattle.slab_decide.specs.Decided.{Decisions}
-use Rattle.slab_node.specs.PoolCovers.{Cover}
-use Rattle.slab_node.specs.Tallies.{HasCause}
-use Rattle.slab_node.specs.declared.tally.Tally.{Tally}
+use Rattle.slab_relax.specs.declared.tally.Tally.{Tally}
+use Rattle.slab_relax.specs.Nodes.{BelongTogether}
+use Rattle.slab_relax.specs.Tallies.{HasCause}
+use Rattle.slab_relax.specs.PoolCovers.{Parts}
 use Rattle.slab_node.specs.declared.turned.Turned.{Turned}
 use Rattle.slab_node.specs.declared.turned.Turned.TheVariants.{Refuted, InBox, Spread, Bare}
 
--- the sizes, the decisions and the pool are those of one mill, and each limit that stands is at most 2 ^ 40 in absolute value
+-- the table, the decisions and the pool are those of one mill, and each limit that stands is at most 2 ^ 40 in absolute value
 pub record IsNode (m : Mill) (listed : List ℕ) (decisions : Decisions) (limits : Limits) (columns : Pool) : Type 0 where
-  pub sizes : listed ≡ m.sizes
-  pub orders : decisions.orders ≡ length m.orders
-  pub yard : decisions.yard ≡ length m.yard
-  pub loss : IsSmall (number_of limits.loss)
-  pub count : IsSmall (number_of limits.count)
+  pub together : BelongTogether m listed decisions limits
   pub pool : columns.mill ≡ m
 
 -- ---- what an answer carries
@@ -65,7 +61,7 @@ IfInBox (InBox plan) P = P plan
 IfInBox (Spread cover ask) P = Unit {0}
 IfInBox (Bare ask) P = Unit {0}
 
-abbrev pub IfSpread : Turned → (Cover → Type 0) → Type 0
+abbrev pub IfSpread : Turned → (Parts → Type 0) → Type 0
 IfSpread (Refuted p) P = Unit {0}
 IfSpread (InBox plan) P = Unit {0}
 IfSpread (Spread cover ask) P = P cover

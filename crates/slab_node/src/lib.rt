@@ -2,12 +2,9 @@
 //! Read `turned`, which has the answers, then `turning`.
 #![tactic(auto)]
 
-mod cover;
-mod tally;
 mod turned;
 mod turning;
 
-pub use cover::Cover;
-pub use tally::Tally;
+pub use slab_relax::{Cover, Tally};
 pub use turned::Turned;
 pub use turning::turn;

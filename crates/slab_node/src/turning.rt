@@ -4,8 +4,8 @@ ghost use Rattle.mill_model.specs.Plain.{IsPlainlyRefuted};
 ghost use Rattle.mill_model.specs.Prices.{Refutes};
 ghost use Rattle.slab_decide.specs.Decided.{IsFirstOpen};
 ghost use Rattle.slab_columns.specs.Pool.{HasGrown};
-ghost use Rattle.slab_node.specs.PoolCovers.{IsPoolCover, HasLeastLoss};
-ghost use Rattle.slab_node.specs.Tallies.{AreNoLess, HasCause};
+ghost use Rattle.slab_relax.specs.PoolCovers.{IsPoolCover, HasLeastLoss};
+ghost use Rattle.slab_relax.specs.Tallies.{AreNoLess, HasCause};
 ghost use Rattle.slab_node.specs.Turns.{IsNode, IsInBox, IsOpenAsk, IfRefuted, IfInBox, IfSpread, IfBare, IfAsks, IsRefuted, IsClosed, IsTurn};
 
 use crate::{Tally, Turned};

@@ -3,8 +3,8 @@ use Rattle.std.proofs.Common.{◌≡◌, ℕ, ◌+◌, ◌≤◌, ◌<◌, ◌-�
 use Rattle.std.proofs.lemmas.Bool.{cases_lt}
 use Rattle.slab_counter.specs.Counter.{Rose}
 use Rattle.slab_counter.proofs.Rising.{Rose-later, Rose-earlier, next_count-below}
-use Rattle.slab_node.specs.declared.tally.Tally.{Tally}
-use Rattle.slab_node.specs.Tallies.{AreNoLess, HasCause, IsAtLast, HaveCauses}
+use Rattle.slab_relax.specs.declared.tally.Tally.{Tally}
+use Rattle.slab_relax.specs.Tallies.{AreNoLess, HasCause, IsAtLast, HaveCauses}
 
 pub no_less_same : (a : Tally) → AreNoLess a a
 no_less_same a = record { wides = omega arith; stalls = omega arith; fulls = omega arith }

@@ -12,24 +12,32 @@ use Rattle.slab_frac.specs.Fraction.{Fraction}
 use Rattle.slab_frac.specs.Scaled.{IsScaled}
 
 -- numbers of columns, each with its multiplier
-abbrev pub Cover : Type 0
-Cover = List (ColId × Fraction)
+abbrev pub Parts : Type 0
+Parts = List (ColId × Fraction)
 
-abbrev pub multipliers : Cover → List Fraction
+abbrev pub multipliers : Parts → List Fraction
 multipliers cover = map (λ (part : ColId × Fraction). part.1) cover
 
 abbrev pub column_at : List Column → ColId → Column
 column_at columns id = slice_index_or columns id.0 (record { kind = New 0; orders = [] })
 
--- the columns that a cover names, with their multipliers brought to whole numbers
-abbrev pub parts_of : List Column → Cover → List ℤ → List Part
-parts_of columns [] ks = []
-parts_of columns (part ∷ cover) [] = []
-parts_of columns (part ∷ cover) (k ∷ ks) = (column_at columns part.0, unsigned_abs k) ∷ parts_of columns cover ks
+-- the columns that a cover names
+abbrev pub named_by : List Column → Parts → List Column
+named_by columns cover = map (λ (part : ColId × Fraction). column_at columns part.0) cover
+
+-- columns with one whole multiplier each
+abbrev pub parts_by : List Column → List ℤ → List Part
+parts_by [] ks = []
+parts_by (c ∷ cs) [] = []
+parts_by (c ∷ cs) (k ∷ ks) = (c, unsigned_abs k) ∷ parts_by cs ks
+
+-- the columns that a cover names, with its multipliers brought to whole numbers
+abbrev pub parts_of : List Column → Parts → List ℤ → List Part
+parts_of columns cover ks = parts_by (named_by columns cover) ks
 
 -- A cover within the limits by columns that agree: it names columns of the pool, no multiplier is negative, and brought to whole
 -- numbers over any denominator they cover each order once.
-pub record IsPoolCover (m : Mill) (limits : Limits) (decisions : List Decision) (columns : List Column) (cover : Cover) : Type 0 where
+pub record IsPoolCover (m : Mill) (limits : Limits) (decisions : List Decision) (columns : List Column) (cover : Parts) : Type 0 where
   pub within : All (λ (part : ColId × Fraction). part.0.0 < length columns) cover
   pub signs : All (λ (part : ColId × Fraction). pos 0 ≤ℤ part.1.num) cover
   pub denominator : ℕ
@@ -47,7 +55,7 @@ abbrev pub AreAmong : List Column → List Part → Type 0
 AreAmong columns parts = All (λ (part : Part). Contains columns part.0) parts
 
 -- no cover for the same limits and decisions by columns of the pool has less loss
-abbrev pub HasLeastLoss : Mill → Limits → List Decision → List Column → Cover → Type 0
+abbrev pub HasLeastLoss : Mill → Limits → List Decision → List Column → Parts → Type 0
 HasLeastLoss m limits decisions columns cover =
     (d : ℕ) (ks : List ℤ) → 0 < d → IsScaled d (multipliers cover) ks →
     (e : ℕ) (others : List Part) → IsCover m limits decisions e others → AreAmong columns others →

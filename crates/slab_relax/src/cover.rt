@@ -11,9 +11,9 @@ pub struct Cover {
 }
 
 impl Model for Cover {
-    ghost use Rattle.slab_node.specs.PoolCovers.{Cover};
+    ghost use Rattle.slab_relax.specs.PoolCovers.{Parts};
 
-    ghost Value = { Cover };
+    ghost Value = { Parts };
 
     ghost view = { λ c. c.list.items };
 }

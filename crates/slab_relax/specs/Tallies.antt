@@ -1,7 +1,7 @@
 -- What the three counters of a turn show.
 use Rattle.std.specs.Prelude.{ℕ, ◌+◌, ◌≤◌, ◌⊎◌}
 use Rattle.slab_counter.specs.Counter.{Rose, last_count}
-use Rattle.slab_node.specs.declared.tally.Tally.{Tally}
+use Rattle.slab_relax.specs.declared.tally.Tally.{Tally}
 
 -- no counter fell
 pub record AreNoLess (old new : Tally) : Type 0 where
