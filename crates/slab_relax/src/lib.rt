@@ -2,7 +2,16 @@
 #![tactic(auto)]
 
 mod cover;
+mod duals;
+mod entries;
+mod node;
+mod relaxed;
+mod restricted;
+mod round;
+mod rows;
 mod tally;
 
 pub use cover::Cover;
+pub use node::Node;
+pub use relaxed::Relaxed;
 pub use tally::Tally;
