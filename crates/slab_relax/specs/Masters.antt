@@ -1,6 +1,8 @@
 -- The restricted master of a node: the pool's columns that agree with the decisions, over the rows of the mill.
 use Rattle.std.specs.Prelude.{◌≡◌, ◌+◌, ◌<◌, ℤ, List, map, length}
-use Rattle.std.specs.List.{All, filter}
+use Rattle.std.specs.List.{All, filter, zip}
+use Rattle.std.specs.Int.{is_positive}
+use Rattle.slab_frac.specs.Fraction.{Fraction}
 use Rattle.mill_model.specs.declared.limits.Limits.{Limits}
 use Rattle.mill_model.specs.Mill.{Mill}
 use Rattle.mill_model.specs.Columns.{Column}
@@ -12,7 +14,7 @@ use Rattle.slab_master.specs.Prices.{ArePricesAt}
 use Rattle.slab_columns.specs.declared.column.ColId.{ColId}
 use Rattle.slab_relax.specs.declared.node.Node.{Node}
 use Rattle.slab_relax.specs.declared.restricted.Restricted.{Restricted}
-use Rattle.slab_relax.specs.PoolCovers.{column_at}
+use Rattle.slab_relax.specs.PoolCovers.{Parts, column_at}
 use Rattle.slab_relax.specs.Rows.{rows_of, entries_of}
 use Rattle.slab_relax.specs.Duals.{prices_of}
 
@@ -41,3 +43,7 @@ pub record AreFarkas (m : Mill) (limits : Limits) (given : Given) (p : Prices) :
   pub range : AreInRange numbers
   pub refuting : ArePricesAt given.rows given.columns numbers
   pub prices_are : p ≡ prices_of m limits numbers
+
+-- the numbers of the columns with a multiplier above 0, each with it
+abbrev pub used_of : List ColId → List Fraction → Parts
+used_of ids xs = filter (λ (part : ColId × Fraction). is_positive part.1.num) (zip ids xs)

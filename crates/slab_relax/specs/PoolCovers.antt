@@ -1,5 +1,5 @@
 -- Covers by columns of a pool, and the least loss of one.
-use Rattle.std.specs.Prelude.{ℕ, ◌*◌, ◌<◌, ◌≤◌, ℤ, pos, ◌≤ℤ◌, unsigned_abs, List, [], ◌∷◌, map, length, slice_index_or}
+use Rattle.std.specs.Prelude.{ℕ, ◌*◌, ◌<◌, ◌≤◌, ℤ, pos, ◌<ℤ◌, unsigned_abs, List, [], ◌∷◌, map, length, slice_index_or}
 use Rattle.std.specs.List.{All, Contains, sum_by}
 use Rattle.mill_model.specs.declared.kind.Kind.TheVariants.{New}
 use Rattle.mill_model.specs.declared.limits.Limits.{Limits}
@@ -35,11 +35,11 @@ parts_by (c ∷ cs) (k ∷ ks) = (c, unsigned_abs k) ∷ parts_by cs ks
 abbrev pub parts_of : List Column → Parts → List ℤ → List Part
 parts_of columns cover ks = parts_by (named_by columns cover) ks
 
--- A cover within the limits by columns that agree: it names columns of the pool, no multiplier is negative, and brought to whole
+-- A cover within the limits by columns that agree: it names columns of the pool, each multiplier is above 0, and brought to whole
 -- numbers over any denominator they cover each order once.
 pub record IsPoolCover (m : Mill) (limits : Limits) (decisions : List Decision) (columns : List Column) (cover : Parts) : Type 0 where
   pub within : All (λ (part : ColId × Fraction). part.0.0 < length columns) cover
-  pub signs : All (λ (part : ColId × Fraction). pos 0 ≤ℤ part.1.num) cover
+  pub above : All (λ (part : ColId × Fraction). pos 0 <ℤ part.1.num) cover
   pub denominator : ℕ
   pub wholes : List ℤ
   pub positive : 0 < denominator

@@ -10,6 +10,7 @@ mod restricted;
 mod round;
 mod rows;
 mod tally;
+mod used;
 
 pub use cover::Cover;
 pub use node::Node;
