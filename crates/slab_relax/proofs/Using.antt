@@ -1,12 +1,12 @@
 -- Columns with a multiplier of 0 may be left out of a cover.
-use Rattle.std.proofs.Common.{◌≡◌, ℕ, zero, suc, ◌+◌, ◌*◌, ◌<◌, ◌≤◌, ℤ, pos, negsuc, ◌*ℤ◌, ◌≤ℤ◌, ◌<ℤ◌, Bool, true, false, cond, List, [], ◌∷◌, ◌++◌, length, map, take, get_or, All, sum_by, sym, refl, ap, ◌∙◌, subst, inl, inr, arith, zero-add, Some}
+use Rattle.std.proofs.Common.{◌≡◌, ℕ, zero, suc, ◌+◌, ◌*◌, ◌<◌, ◌≤◌, ℤ, pos, ◌*ℤ◌, ◌≤ℤ◌, ◌<ℤ◌, Bool, true, false, cond, List, [], ◌∷◌, ◌++◌, length, map, take, get_or, All, sum_by, sym, refl, ap, ◌∙◌, subst, inl, inr, arith, zero-add, zero-mul, Some}
 use Rattle.std.specs.Prelude.{unsigned_abs}
 use Rattle.std.specs.Int.{is_positive}
 use Rattle.std.specs.List.{AllByRecursion, filter, zip}
 use Rattle.std.proofs.lemmas.Int.{ints}
 use Rattle.std.proofs.lemmas.Bool.{cases_Bool}
 use Rattle.std.proofs.Math.IntN.{zero-*ℤ}
-use Rattle.std.proofs.lemmas.List.{take_more}
+use Rattle.std.proofs.lemmas.List.{append-nil}
 use Rattle.std.proofs.lemmas.List.Sums.{sum_by-cons}
 use Rattle.std.proofs.lemmas.List.Elements.{All-head, All-tail, filter-append}
 use Rattle.mill_model.specs.declared.limits.Limits.{Limits}
@@ -19,7 +19,7 @@ use Rattle.mill_model.specs.Covers.{Part, times, IsCover}
 use Rattle.slab_frac.specs.Fraction.{Fraction}
 use Rattle.slab_frac.specs.Scaled.{IsMultipleBy, IsScaled}
 use Rattle.slab_columns.specs.declared.column.ColId.{ColId}
-use Rattle.slab_relax.specs.PoolCovers.{Parts, multipliers, column_at, named_by, parts_by, parts_of, loss_by}
+use Rattle.slab_relax.specs.PoolCovers.{Parts, multipliers, column_at, parts_by, parts_of}
 use Rattle.slab_relax.specs.Masters.{used_of}
 
 -- a multiplier that isn't negative
@@ -37,9 +37,10 @@ record IsFilled (m : Mill) (decisions : List Decision) (columns : List Column) (
   allowed : AllByRecursion (IsAllowedPart m decisions) (parts_by (map (column_at columns) ids) all) → AllByRecursion (IsAllowedPart m decisions) (parts_of columns (used_of ids xs) ks)
 
 zero_is : (x : ℤ) → pos 0 ≤ℤ x → is_positive x ≡ false → x ≡ pos 0
-zero_is (pos zero) h e = refl
-zero_is (pos (suc n)) h e = cc
-zero_is (negsuc n) h e = absurd (omega (arith, ints))
+zero_is x h e = grind (arith, ints)
+
+pub above_is : (x : ℤ) → is_positive x ≡ true → pos 0 <ℤ x
+above_is x e = grind (arith, ints)
 
 -- a column with a multiplier above 0 stays
 filled_with : (m : Mill) (decisions : List Decision) (columns : List Column) (d : ℕ) (ids : List ColId) (xs : List Fraction) (id : ColId) (x : Fraction) (k : ℤ) (ks : List ℤ) → is_positive x.num ≡ true → IsMultipleBy d x k
@@ -67,14 +68,14 @@ filled m decisions columns d [] [] (k ∷ ks) l usable s = absurd s
 filled m decisions columns d [] (x ∷ xs) ks l usable s = absurd (omega arith)
 filled m decisions columns d (id ∷ ids) [] ks l usable s = absurd (omega arith)
 filled m decisions columns d (id ∷ ids) (x ∷ xs) ks l usable s = elim (cases_Bool (is_positive x.num)) [
-  | inl e ↦ taken e ks (subst (λ (b : Bool). IsScaled d (multipliers (cond b ((id, x) ∷ used_of ids xs) (used_of ids xs))) ks) e s)
+  | inl e ↦ taken e (λ js t. filled m decisions columns d ids xs js (omega arith) (All-tail IsUsable x xs usable) t) ks (subst (λ (b : Bool). IsScaled d (multipliers (cond b ((id, x) ∷ used_of ids xs) (used_of ids xs))) ks) e s)
   | inr e ↦ filled_without m decisions columns d ids xs id x ks e (All-head IsUsable x xs usable)
       (filled m decisions columns d ids xs ks (omega arith) (All-tail IsUsable x xs usable) (subst (λ (b : Bool). IsScaled d (multipliers (cond b ((id, x) ∷ used_of ids xs) (used_of ids xs))) ks) e s))
 ]
   where
-    taken : is_positive x.num ≡ true → (js : List ℤ) → IsScaled d (x ∷ multipliers (used_of ids xs)) js → IsFilled m decisions columns d (id ∷ ids) (x ∷ xs) js
-    taken e [] t = absurd t
-    taken e (k ∷ js) t = filled_with m decisions columns d ids xs id x k js e t.0 (filled m decisions columns d ids xs js (omega arith) (All-tail IsUsable x xs usable) t.1)
+    taken : is_positive x.num ≡ true → ((js : List ℤ) → IsScaled d (multipliers (used_of ids xs)) js → IsFilled m decisions columns d ids xs js) → (js : List ℤ) → IsScaled d (x ∷ multipliers (used_of ids xs)) js → IsFilled m decisions columns d (id ∷ ids) (x ∷ xs) js
+    taken e rest [] t = absurd t
+    taken e rest (k ∷ js) t = filled_with m decisions columns d ids xs id x k js e t.0 (rest js t.1)
 
 -- what a cover of all columns is without those left out
 without_them : (m : Mill) (limits : Limits) (decisions : List Decision) (columns : List Column) (d : ℕ) (ids : List ColId) (xs : List Fraction) (ks : List ℤ) → (fill : IsFilled m decisions columns d ids xs ks)
@@ -84,16 +85,42 @@ without_them m limits decisions columns d ids xs ks fill cover = record {
   legal = fill.allowed cover.legal;
   orders = λ o h. sym (fill.sums (λ (part : Part). cond (has part.0.orders o) part.1 0) (λ c. same (has c.orders o))) ∙ cover.orders o h;
   yard = λ s h. subst (λ (n : ℕ). n ≤ d) (fill.sums (λ (part : Part). cond (is_old s part.0.kind) part.1 0) (λ c. same (is_old s c.kind))) (cover.yard s h);
-  loss = subst (λ (n : ℕ). AtMost (Some (pos n)) (times d limits.loss)) (fill.sums (λ (part : Part). part.1 * loss_of m part.0) (λ c. omega arith)) cover.loss;
+  loss = subst (λ (n : ℕ). AtMost (Some (pos n)) (times d limits.loss)) (fill.sums (λ (part : Part). part.1 * loss_of m part.0) (λ c. none (loss_of m c))) cover.loss;
   count = subst (λ (n : ℕ). AtMost (Some (pos n)) (times d limits.count)) (fill.sums (λ (part : Part). cond (is_new part.0.kind) part.1 0) (λ c. same (is_new c.kind))) cover.count;
 }
   where
-    same : (b : Bool) → cond b 0 0 ≡ 0
+    same : (b : Bool) → cond b zero zero ≡ zero
     same true = refl
     same false = refl
 
+    none : (n : ℕ) → 0 * n ≡ 0
+    none n = zero-mul n
+
 -- ---- a loop
 
-pub used_more : (ids : List ColId) (xs : List Fraction) (i : ℕ) (id : ColId) (x : Fraction) (before : Parts) → i < length ids → i < length xs → id ≡ get_or ids i id → x ≡ get_or xs i x → is_positive x.num ≡ true
-    → before ≡ used_of (take i ids) (take i xs) → before ++ (id, x) ∷ [] ≡ used_of (take (i + 1) ids) (take (i + 1) xs)
-used_more ids xs i id x before h l p q e was = ?
+zip_more : (ids : List ColId) (xs : List Fraction) (i : ℕ) (id : ColId) (x : Fraction) → i < length ids → i < length xs → zip (take (i + 1) ids) (take (i + 1) xs) ≡ zip (take i ids) (take i xs) ++ (get_or ids i id, get_or xs i x) ∷ []
+zip_more [] xs i id x h l = absurd (omega arith)
+zip_more (a ∷ ids) [] i id x h l = absurd (omega arith)
+zip_more (a ∷ ids) (b ∷ xs) zero id x h l = refl
+zip_more (a ∷ ids) (b ∷ xs) (suc i) id x h l = ap (λ (n : ℕ). zip (take n (a ∷ ids)) (take n (b ∷ xs))) suc_is ∙ ap (λ (r : Parts). (a, b) ∷ r) (zip_more ids xs i id x (omega arith) (omega arith))
+  where
+    suc_is : suc i + 1 ≡ suc (i + 1)
+    suc_is = omega arith
+
+-- one column more
+used_next : (ids : List ColId) (xs : List Fraction) (i : ℕ) (id : ColId) (x : Fraction) → i < length ids → i < length xs → used_of (take (i + 1) ids) (take (i + 1) xs) ≡ used_of (take i ids) (take i xs) ++ filter (λ (part : ColId × Fraction). is_positive part.1.num) ((get_or ids i id, get_or xs i x) ∷ [])
+used_next ids xs i id x h l = ap (filter (λ (part : ColId × Fraction). is_positive part.1.num)) (zip_more ids xs i id x h l) ∙ filter-append (λ (part : ColId × Fraction). is_positive part.1.num) (zip (take i ids) (take i xs)) ((get_or ids i id, get_or xs i x) ∷ [])
+
+pub used_more : (ids : List ColId) (xs : List Fraction) (i : ℕ) (id : ColId) (x : Fraction) (before : Parts) → i < length ids → i < length xs → is_positive (get_or xs i x).num ≡ true
+    → before ≡ used_of (take i ids) (take i xs) → before ++ (get_or ids i id, get_or xs i x) ∷ [] ≡ used_of (take (i + 1) ids) (take (i + 1) xs)
+used_more ids xs i id x before h l e was =
+    let next = used_next ids xs i id x h l in
+    let kept : filter (λ (part : ColId × Fraction). is_positive part.1.num) ((get_or ids i id, get_or xs i x) ∷ []) ≡ (get_or ids i id, get_or xs i x) ∷ [] = rw e refl in
+    ap (λ (l : Parts). l ++ (get_or ids i id, get_or xs i x) ∷ []) was ∙ ap (λ (l : Parts). used_of (take i ids) (take i xs) ++ l) (sym kept) ∙ sym next
+
+pub used_same : (ids : List ColId) (xs : List Fraction) (i : ℕ) (id : ColId) (x : Fraction) (before : Parts) → i < length ids → i < length xs → is_positive (get_or xs i x).num ≡ false
+    → before ≡ used_of (take i ids) (take i xs) → before ≡ used_of (take (i + 1) ids) (take (i + 1) xs)
+used_same ids xs i id x before h l e was =
+    let next = used_next ids xs i id x h l in
+    let none : filter (λ (part : ColId × Fraction). is_positive part.1.num) ((get_or ids i id, get_or xs i x) ∷ []) ≡ [] = rw e refl in
+    was ∙ sym (append-nil (used_of (take i ids) (take i xs))) ∙ ap (λ (l : Parts). used_of (take i ids) (take i xs) ++ l) (sym none) ∙ sym next
