@@ -26,15 +26,15 @@ use Rattle.slab_relax.specs.Masters.{used_of}
 abbrev pub IsUsable : Fraction → Type 0
 IsUsable x = (0 < x.den) × (pos 0 ≤ℤ x.num)
 
-abbrev IsAllowedPart : Mill → List Decision → Part → Type 0
+abbrev pub IsAllowedPart : Mill → List Decision → Part → Type 0
 IsAllowedPart m decisions part = IsLegalColumn m part.0 × (column_agrees decisions part.0 ≡ true)
 
 -- whole multipliers of all columns, with 0 where a column is left out
-record IsFilled (m : Mill) (decisions : List Decision) (columns : List Column) (d : ℕ) (ids : List ColId) (xs : List Fraction) (ks : List ℤ) : Type 0 where
-  all : List ℤ
-  scaled : IsScaled d xs all
-  sums : (f : Part → ℕ) → ((c : Column) → f (c, 0) ≡ 0) → sum_by f (parts_by (map (column_at columns) ids) all) ≡ sum_by f (parts_of columns (used_of ids xs) ks)
-  allowed : AllByRecursion (IsAllowedPart m decisions) (parts_by (map (column_at columns) ids) all) → AllByRecursion (IsAllowedPart m decisions) (parts_of columns (used_of ids xs) ks)
+pub record IsFilled (m : Mill) (decisions : List Decision) (columns : List Column) (d : ℕ) (ids : List ColId) (xs : List Fraction) (ks : List ℤ) : Type 0 where
+  pub all : List ℤ
+  pub scaled : IsScaled d xs all
+  pub sums : (f : Part → ℕ) → ((c : Column) → f (c, 0) ≡ 0) → sum_by f (parts_by (map (column_at columns) ids) all) ≡ sum_by f (parts_of columns (used_of ids xs) ks)
+  pub allowed : AllByRecursion (IsAllowedPart m decisions) (parts_by (map (column_at columns) ids) all) → AllByRecursion (IsAllowedPart m decisions) (parts_of columns (used_of ids xs) ks)
 
 zero_is : (x : ℤ) → pos 0 ≤ℤ x → is_positive x ≡ false → x ≡ pos 0
 zero_is x h e = grind (arith, ints)
@@ -62,7 +62,7 @@ filled_without m decisions columns d ids xs id x ks e usable rest = record {
   allowed = λ h. rw e (rest.allowed h.1);
 }
 
-filled : (m : Mill) (decisions : List Decision) (columns : List Column) (d : ℕ) (ids : List ColId) (xs : List Fraction) (ks : List ℤ) → length xs ≡ length ids → All IsUsable xs → IsScaled d (multipliers (used_of ids xs)) ks → IsFilled m decisions columns d ids xs ks
+pub filled : (m : Mill) (decisions : List Decision) (columns : List Column) (d : ℕ) (ids : List ColId) (xs : List Fraction) (ks : List ℤ) → length xs ≡ length ids → All IsUsable xs → IsScaled d (multipliers (used_of ids xs)) ks → IsFilled m decisions columns d ids xs ks
 filled m decisions columns d [] [] [] l usable s = record { all = []; scaled = tt; sums = λ f z. refl; allowed = λ h. tt }
 filled m decisions columns d [] [] (k ∷ ks) l usable s = absurd s
 filled m decisions columns d [] (x ∷ xs) ks l usable s = absurd (omega arith)
@@ -78,7 +78,7 @@ filled m decisions columns d (id ∷ ids) (x ∷ xs) ks l usable s = elim (cases
     taken e rest (k ∷ js) t = filled_with m decisions columns d ids xs id x k js e t.0 (rest js t.1)
 
 -- what a cover of all columns is without those left out
-without_them : (m : Mill) (limits : Limits) (decisions : List Decision) (columns : List Column) (d : ℕ) (ids : List ColId) (xs : List Fraction) (ks : List ℤ) → (fill : IsFilled m decisions columns d ids xs ks)
+pub without_them : (m : Mill) (limits : Limits) (decisions : List Decision) (columns : List Column) (d : ℕ) (ids : List ColId) (xs : List Fraction) (ks : List ℤ) → (fill : IsFilled m decisions columns d ids xs ks)
     → IsCover m limits decisions d (parts_by (map (column_at columns) ids) fill.all) → IsCover m limits decisions d (parts_of columns (used_of ids xs) ks)
 without_them m limits decisions columns d ids xs ks fill cover = record {
   denominator = cover.denominator;

@@ -13,10 +13,10 @@ use Rattle.slab_relax.specs.declared.round.Round.TheVariants.{Refuted as RoundRe
 use Rattle.slab_relax.specs.PoolCovers.{Parts}
 use Rattle.slab_relax.specs.Tallies.{HasCause}
 
--- what a round answers, of the master as it was before it
+-- what a round answers, with the master after it
 abbrev pub RoundHolds : Node → Given → Pool → Pool → Tally → Tally → Round → Type 0
 RoundHolds node given before now old new (RoundRefuted p) = Refutes node.mill.now node.limits node.decisions.now.list p
-RoundHolds node given before now old new (Met xs) = IsSpread given.rows given.columns xs × (now ≡ before)
+RoundHolds node given before now old new (Met xs) = IsSpread given.rows given.columns xs
 RoundHolds node given before now old new Grew = length now.columns ≡ length before.columns + 1
 RoundHolds node given before now old new RoundCounted = HasCause old new
 

@@ -4,7 +4,7 @@ ghost use Rattle.mill_model.specs.Columns.{IsLegalColumn};
 ghost use Rattle.mill_model.specs.Decisions.{column_agrees};
 ghost use Rattle.slab_counter.specs.Counter.{Rose};
 ghost use Rattle.slab_columns.specs.Columns.{column_of};
-ghost use Rattle.slab_columns.specs.Pool.{HasGrown};
+ghost use Rattle.slab_columns.specs.Pool.{IsPool, HasGrown};
 ghost use Rattle.slab_relax.specs.Masters.{IsRestricted};
 ghost use Rattle.slab_relax.specs.Rounds.{RoundHolds};
 ghost use Rattle.slab_relax.specs.Tallies.{AreNoLess};
@@ -74,10 +74,10 @@ impl Restricted {
     ) -> Result<Round, AllocError>
         requires mill { pool.old.mill ≡ node.now.mill.now }
         requires restricted { IsRestricted node.now pool.old.columns self.old }
-        ensures holds { IfOk result (RoundHolds node.now self.old.master pool.old pool.new tally.old tally.new) }
+        ensures holds { IfOk result (RoundHolds node.now self.new.master pool.old pool.new tally.old tally.new) }
         ensures restricted { OnOk result (IsRestricted node.now pool.new.columns self.new) }
         ensures grown { HasGrown pool.old pool.new }
-        ensures few { length pool.new.columns ≤ 8192 }
+        ensures pool { IsPool pool.new }
         ensures counters { AreNoLess tally.old tally.new }
     {
         let _before = pool.len();
