@@ -2,6 +2,7 @@
 //! Read `turned`, which has the answers, then `turning`.
 #![tactic(auto)]
 
+mod plans;
 mod turned;
 mod turning;
 
