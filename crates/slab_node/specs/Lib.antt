@@ -4,3 +4,4 @@ pub use Rattle.slab_relax.specs.PoolCovers
 pub mod Turns
 pub mod Grouped
 pub mod Built
+pub mod Settled

@@ -2,6 +2,8 @@
 //! Read `turned`, which has the answers, then `turning`.
 #![tactic(auto)]
 
+mod groups;
+mod kinds;
 mod plans;
 mod turned;
 mod turning;
