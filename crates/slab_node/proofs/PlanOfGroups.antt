@@ -21,8 +21,9 @@ use Rattle.mill_model.proofs.Judging.{once_from_pairs}
 use Rattle.mill_model.proofs.PlanCover.{weights_within_sizes}
 use Rattle.slab_node.specs.Grouped.{AreGrouped, AreKinds, IsKindFor, slab_at, kind_at, group_of, group_column}
 use Rattle.slab_node.specs.Built.{IsBuilt}
+use Rattle.slab_node.specs.Stated.{at_heads}
 
-same_bool : (x y : Bool) → (x ≡ true → y ≡ true) → (y ≡ true → x ≡ true) → x ≡ y
+pub same_bool : (x y : Bool) → (x ≡ true → y ≡ true) → (y ≡ true → x ≡ true) → x ≡ y
 same_bool true y f g = sym (f refl)
 same_bool false true f g = g refl
 same_bool false false f g = refl
@@ -39,10 +40,6 @@ has_group heads head o h = has-members heads (head ∷ []) o h ∙ only (eqb hea
 swapped : (n k : ℕ) (f : ℕ → ℕ → ℤ) → total_below n (λ i. total_below k (λ j. f i j)) ≡ total_below k (λ j. total_below n (λ i. f i j))
 swapped zero k f = sym (total_below-zero k)
 swapped (suc n) k f = ap (λ (z : ℤ). z +ℤ total_below k (λ j. f n j)) (swapped n k f) ∙ sym (total_below-add k (λ j. total_below n (λ i. f i j)) (λ j. f n j))
-
--- a number for each group, and 0 for each order that isn't the first of one
-abbrev pub at_heads : List ℕ → (ℕ → ℤ) → ℕ → ℤ
-at_heads heads value o = cond (eqb (head_of heads o) o) (value o) (pos 0)
 
 module _ (m : Mill) (heads : List ℕ) (slabs : List (Option ℕ)) (kinds used : List Kind) (place : List ℕ) (grouped : AreGrouped m heads slabs) (are : AreKinds m heads slabs kinds) (built : IsBuilt heads kinds (length heads) used place) where
   abbrev plan : Plan

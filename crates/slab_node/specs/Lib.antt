@@ -5,3 +5,5 @@ pub mod Turns
 pub mod Grouped
 pub mod Built
 pub mod Settled
+pub mod Stated
+pub mod Misfits
