@@ -7,3 +7,4 @@ pub mod Built
 pub mod Settled
 pub mod Stated
 pub mod Misfits
+pub mod Settlements

@@ -1,11 +1,12 @@
 //! The groups of settled decisions.
-ghost use Rattle.std.specs.Prelude.{◌≡◌, ◌<◌, ◌≤◌, length};
+ghost use Rattle.std.specs.Prelude.{◌≡◌, ◌<◌, IfOk, length};
 ghost use Rattle.mill_model.specs.Decisions.{IsAsk};
 ghost use Rattle.mill_model.specs.Assignments.{Follows, AreSettled};
 ghost use Rattle.slab_node.specs.Settled.{IsFirst, IsSlabOf, AreFirsts, AreSlabs};
 
 use mill_model::Ask;
 use slab_relax::Node;
+use std::alloc::{AllocError, Global};
 
 // What settled decisions answer.
 fn answer(node: &Node<'_>, ask: Ask) -> bool
@@ -49,25 +50,29 @@ fn slab_of(node: &Node<'_>, order: u16) -> Option<u16>
 }
 
 // The first order of each order's group.
-pub(crate) fn find_firsts(node: &Node<'_>, heads: &mut [u16])
-    requires room { length heads.old ≡ length node.now.mill.now.orders }
-    requires few { length heads.old ≤ 250 }
-    requires settled { AreSettled node.now.mill.now node.now.decisions.now.list }
-    ensures { AreFirsts node.now.decisions.now.list heads.new }
+pub(crate) fn firsts_of(alloc: Global, node: &Node<'_>) -> Result<Vec<u16>, AllocError>
+    requires { AreSettled node.now.mill.now node.now.decisions.now.list }
+    ensures size { IfOk result (λ heads. length heads.items ≡ length node.now.mill.now.orders) }
+    ensures firsts { IfOk result (λ heads. AreFirsts node.now.decisions.now.list heads.items) }
 {
-    for (order, head) in heads.iter_mut().enumerate() {
-        *head = first_of(node, order as u16);
+    let count = node.mill.orders().len();
+    let mut heads = Vec::with_capacity(alloc, count)?;
+    for order in 0..count {
+        heads.push(first_of(node, order as u16))?;
     }
+    Ok(heads)
 }
 
 // The surplus slab of each order's group, if it has one.
-pub(crate) fn find_slabs(node: &Node<'_>, slabs: &mut [Option<u16>])
-    requires room { length slabs.old ≡ length node.now.mill.now.orders }
-    requires few { length slabs.old ≤ 250 }
-    requires settled { AreSettled node.now.mill.now node.now.decisions.now.list }
-    ensures { AreSlabs node.now.decisions.now.list (length node.now.mill.now.yard) slabs.new }
+pub(crate) fn slabs_of(alloc: Global, node: &Node<'_>) -> Result<Vec<Option<u16>>, AllocError>
+    requires { AreSettled node.now.mill.now node.now.decisions.now.list }
+    ensures size { IfOk result (λ slabs. length slabs.items ≡ length node.now.mill.now.orders) }
+    ensures slabs { IfOk result (λ slabs. AreSlabs node.now.decisions.now.list (length node.now.mill.now.yard) slabs.items) }
 {
-    for (order, slab) in slabs.iter_mut().enumerate() {
-        *slab = slab_of(node, order as u16);
+    let count = node.mill.orders().len();
+    let mut slabs = Vec::with_capacity(alloc, count)?;
+    for order in 0..count {
+        slabs.push(slab_of(node, order as u16))?;
     }
+    Ok(slabs)
 }

@@ -5,6 +5,7 @@
 mod groups;
 mod kinds;
 mod plans;
+mod settlement;
 mod turned;
 mod turning;
 
