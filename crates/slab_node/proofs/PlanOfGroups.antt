@@ -179,3 +179,11 @@ module _ (m : Mill) (heads : List ℕ) (slabs : List (Option ℕ)) (kinds used :
   -- and so is its count
   pub plan_count : total_below (length heads) (at_heads heads (λ head. pos (cond (is_new (kind_at kinds head)) 1 0))) ≡ pos (sums_of m plan).count
   plan_count = sym (built.total (λ kind. cond (is_new kind) 1 0))
+
+  -- in a legal plan each group fits on its slab
+  pub groups_fit : IsLegal m plan → (head : ℕ) → head < length m.orders → head_of heads head ≡ head → Fits m (group_column heads kinds head)
+  groups_fit legal head h own =
+      let low : head < length heads = omega (arith, grouped.heads_size) in
+      let is = slab_is (get_or place head 0) (built.within head low) in
+      let same : is.head ≡ head = sym is.of ∙ built.parted is.order head is.inside low is.there ∙ own in
+      subst (λ (g : ℕ). Fits m (group_column heads kinds g)) same (subst (Fits m) is.column (legal.fits (get_or place head 0) (built.within head low)))
