@@ -1,6 +1,7 @@
 //! The slabs of groups: a group's surplus slab, or else a new slab of the least size that holds it.
 ghost use Rattle.std.specs.Prelude.{◌≡◌, ◌≤◌, IfOk, length};
 ghost use Rattle.mill_model.specs.declared.kind.Kind.{Kind};
+ghost use Rattle.mill_model.specs.Columns.{IsInStock, size_of};
 ghost use Rattle.mill_model.specs.Groupings.{AreBefore, AreWeights};
 ghost use Rattle.slab_node.specs.Grouped.{AreGrouped, IsNewFor, IsKindFor, AreKinds};
 
@@ -20,6 +21,30 @@ fn weigh(mill: &Mill, heads: &[u16], weights: &mut [u32])
     weights.fill(0);
     for (order, head) in heads.iter().enumerate() {
         weights[usize::from(*head)] += u32::from(mill.orders()[order].weight);
+    }
+}
+
+// What each group weighs, in a list of its own.
+pub(crate) fn weights_of(alloc: Global, mill: &Mill, heads: &[u16]) -> Result<Vec<u32>, AllocError>
+    requires orders { length heads.now ≡ length mill.now.orders }
+    requires before { AreBefore heads.now }
+    ensures { IfOk result (λ weights. AreWeights mill.now heads.now weights.items) }
+{
+    let mut weights = vec![in alloc; 0; mill.orders().len()]?;
+    weigh(mill, heads, &mut weights);
+    Ok(weights)
+}
+
+// The size of a slab.
+pub(crate) fn size_of(mill: &Mill, kind: Kind) -> u16
+    requires { IsInStock mill.now kind }
+    ensures value { result ≡ size_of mill.now kind }
+    ensures small { result ≤ 10000 }
+{
+    let _sizes = mill.sizes();
+    match kind {
+        Kind::New(size) => size,
+        Kind::Old(slab) => mill.yard()[slab as usize],
     }
 }
 
@@ -56,8 +81,7 @@ pub(crate) fn kinds_of(
     ensures { IfOk result (λ kinds. AreKinds node.now.mill.now heads.now slabs.now kinds.items) }
 {
     let count = node.mill.orders().len();
-    let mut weights = vec![in alloc; 0; count]?;
-    weigh(node.mill, heads, &mut weights);
+    let weights = weights_of(alloc, node.mill, heads)?;
     let mut kinds = Vec::with_capacity(alloc, count)?;
     for (head, slab) in slabs.iter().enumerate() {
         kinds.push(kind_for(node.mill, node.table, *slab, weights[head]))?;

@@ -6,6 +6,7 @@ mod groups;
 mod kinds;
 mod plans;
 mod settlement;
+mod stated;
 mod turned;
 mod turning;
 
