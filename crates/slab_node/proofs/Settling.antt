@@ -24,6 +24,7 @@ use Rattle.slab_node.specs.declared.settlement.Settlement.{Settlement}
 use Rattle.slab_node.specs.Turns.{IsInBox}
 use Rattle.slab_node.specs.Grouped.{AreGrouped, IsOfGroup, kind_at, group_column}
 use Rattle.slab_node.specs.Stated.{at_heads, AreAtHeads, only, group_loss, group_count, free_prices}
+use Rattle.slab_node.specs.Misfits.{slab_number}
 use Rattle.slab_node.specs.Settlements.{IsSettlement}
 use Rattle.slab_node.proofs.SettledGroups.{are_grouped, of_group, plan_agrees}
 use Rattle.slab_node.proofs.GroupColumns.{group_fits, group_loss as own_loss, group_is_new}
@@ -127,6 +128,26 @@ module _ (node : Node) (s : Settlement) (is : IsSettlement node s) where
             | inl q ↦ rw (eq-eqb (head_of heads i) i (ap (head_of heads) (sym q) ∙ grouped.grouping.fixed o l ∙ q), eq-eqb (head_of heads o) i q) refl
             | inr ne ↦ rw (ne_eqb (head_of heads o) i ne) (neither (eqb (head_of heads i) i))
           ]
+
+  -- what the number of a rule's slab says
+  pub rule_slab : (rule : Illegal) (k : ℕ) → first_broken m s.plan ≡ Some rule → slab_number rule ≡ Some k → (k < length s.plan.kinds) × (Fits m (slab s.plan k) → ⊥)
+  rule_slab rule k broken number =
+      let it = misfit_of rule broken in
+      let same : it.slab_is ≡ k = some it.slab_is (sym it.number ∙ number) in
+      (subst (λ (j : ℕ). j < length s.plan.kinds) same it.inside, subst (λ (j : ℕ). Fits m (slab s.plan j) → ⊥) same it.misfit)
+    where
+      some : (j : ℕ) → Some j ≡ Some k → j ≡ k
+      some j e = cc
+
+  -- each slab has an order
+  pub slab_order : (k : ℕ) → k < length s.plan.kinds → (o : ℕ) × (o < length s.plan.place) × (get_or s.plan.place o 0 ≡ k)
+  slab_order k h = let it = slab_is m heads is.slabs kinds s.plan.kinds s.plan.place grouped is.are is.built k h in (it.order, omega (arith, it.inside, is.built.size), it.there)
+
+  pub own_head : (o : ℕ) → o < length heads → head_of heads (head_of heads o) ≡ head_of heads o
+  own_head o h = grouped.grouping.fixed o h
+
+  pub head_below : (o : ℕ) → o < length heads → head_of heads o < length heads
+  head_below o h = omega (arith, grouped.grouping.before o h)
 
   -- ---- a legal plan
 

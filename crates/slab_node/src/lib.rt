@@ -5,6 +5,7 @@
 mod groups;
 mod kinds;
 mod plans;
+mod settle;
 mod settlement;
 mod stated;
 mod turned;

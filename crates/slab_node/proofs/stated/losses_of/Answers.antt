@@ -1,7 +1,7 @@
-use Rattle.std.proofs.Common.{rules, ◌≡◌, ◌++◌, ◌∷◌, [], ◌<◌, ◌≤◌, ℕ, ℤ, pos, List, length, get_or, to_z, of_z, sym, ap, ap₂, ◌∙◌, arith}
-use Rattle.std.specs.Prelude.{◌-ℤ◌, FitsSigned}
+use Rattle.std.proofs.Common.{rules, ◌≡◌, pos, to_z, of_z, ap, ◌∙◌, arith}
+use Rattle.std.specs.Prelude.{◌-ℤ◌}
 use Rattle.std.specs.Int.{w64}
-use Rattle.std.proofs.lemmas.Int.{ints, to_z-of_z}
+use Rattle.std.proofs.lemmas.Int.{ints}
 use Rattle.std.proofs.lemmas.Grind.{get_or_default_zero}
 use Rattle.mill_model.specs.Columns.{load, size_of}
 use Rattle.mill_model.specs.Groups.{head_of}

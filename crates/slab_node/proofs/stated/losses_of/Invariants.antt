@@ -1,4 +1,4 @@
-use Rattle.slab_node.specs.Stated.{only, group_loss, group_count}
+use Rattle.slab_node.specs.Stated.{group_loss}
 use Rattle.slab_node.proofs.AtHeads.{AreAt}
 use Rattle.slab_node.proofs.stated.losses_of.Given as goal
 
