@@ -1,8 +1,7 @@
 -- Prices on groups refute where no column that agrees costs less than its group's price, and the groups are worth more than the limits allow.
-use Rattle.std.proofs.Common.{◌≡◌, ℕ, ◌<◌, ◌≤◌, ℤ, pos, ◌+ℤ◌, ◌*ℤ◌, ◌≤ℤ◌, ◌<ℤ◌, Bool, true, false, cond, eqb, List, [], ◌∷◌, length, get_or, replicate, All, refl, sym, ap, ◌∙◌, subst, inl, inr, arith, Option, Some, None, IfNone}
+use Rattle.std.proofs.Common.{◌≡◌, ℕ, ◌<◌, ◌≤◌, ℤ, pos, ◌+ℤ◌, ◌*ℤ◌, ◌≤ℤ◌, ◌<ℤ◌, Bool, true, false, cond, eqb, List, [], ◌∷◌, length, get_or, replicate, All, refl, sym, ap, ◌∙◌, inl, inr, arith, Option, Some, None, IfNone}
 use Rattle.std.proofs.lemmas.Int.{ints}
 use Rattle.std.proofs.lemmas.Bool.{or_left, eq-eqb, ne_eqb, cases_eq}
-use Rattle.std.proofs.lemmas.List.Elements.{All-from_get_or}
 use Rattle.mill_model.specs.declared.limits.Limits.{Limits}
 use Rattle.mill_model.specs.Mill.{Mill}
 use Rattle.mill_model.specs.Columns.{Column, IsLegalColumn, Rises, has, loss_of}
@@ -42,43 +41,31 @@ group_worth heads value orders head e h own =
       ]
     ]
 
-one_is_price : IsPrice (pos 1)
-one_is_price = (omega (arith, ints), omega (arith, ints))
-
-zero_is_price : IsPrice (pos 0)
-zero_is_price = (omega (arith, ints), omega (arith, ints))
+-- some order of a column
+some_order : (low n : ℕ) (xs : List ℕ) → 0 < length xs → Rises low n xs → (o : ℕ) × (o < n) × (has xs o ≡ true)
+some_order low n [] h r = absurd (omega arith)
+some_order low n (x ∷ xs) h r = (x, r.1, or_left (eqb x x) (has xs x) (eq-eqb x x refl))
 
 pub missing : (b : Option ℤ) → IfNone b (pos 0 ≡ pos 0)
 missing None = refl
 missing (Some b) = tt
 
 module _ (m : Mill) (limits : Limits) (decisions : List Decision) (heads : List ℕ) (slabs : List (Option ℕ)) (heads_size : length heads ≡ length m.orders) (of_group : (c : Column) → IsLegalColumn m c → column_agrees decisions c ≡ true → (o : ℕ) → o < length m.orders → has c.orders o ≡ true → IsOfGroup heads slabs c (head_of heads o))
-    (before : (o : ℕ) → o < length heads → head_of heads o ≤ o) (fixed : (o : ℕ) → o < length heads → head_of heads (head_of heads o) ≡ head_of heads o) (value : ℕ → ℤ) (pi : List ℤ) (at : AreAtHeads heads value pi) (range : (o : ℕ) → o < length heads → IsPrice (value o)) where
+    (before : (o : ℕ) → o < length heads → head_of heads o ≤ o) (fixed : (o : ℕ) → o < length heads → head_of heads (head_of heads o) ≡ head_of heads o) (value : ℕ → ℤ) (pi : List ℤ) (at : AreAtHeads heads value pi) (range : All IsPrice pi) where
   worth_is : total_by (λ q. q) pi ≡ total_below (length heads) (at_heads heads value)
   worth_is = total_by_at (λ q. q) (pos 0) pi ∙ ap (λ (n : ℕ). total_below n (λ i. get_or pi i (pos 0))) at.size ∙ total_below-ext (length heads) (λ i. get_or pi i (pos 0)) (at_heads heads value) at.each
-
-  pi_range : All IsPrice pi
-  pi_range = All-from_get_or IsPrice pi (pos 0) (λ o h. subst IsPrice (sym (at.each o (omega (arith, at.size)))) (by (eqb (head_of heads o) o) o (omega (arith, at.size))))
-    where
-      by : (b : Bool) (o : ℕ) → o < length heads → IsPrice (cond b (value o) (pos 0))
-      by true o h = range o h
-      by false o h = zero_is_price
 
   column_worth : (c : Column) → IsLegalColumn m c → column_agrees decisions c ≡ true → (o : ℕ) → o < length m.orders → has c.orders o ≡ true → total_by (price_at pi) c.orders ≡ value (head_of heads o)
   column_worth c legal allowed o h e =
       total_rising (price_at pi) (at_heads heads value) 0 (length m.orders) c.orders legal.rises (λ i l. at.each i (omega (arith, heads_size)))
       ∙ group_worth heads value c.orders (head_of heads o) (of_group c legal allowed o h e).orders (omega (arith, before o (omega (arith, heads_size)), heads_size)) (fixed o (omega (arith, heads_size)))
 
-  some_order : (low n : ℕ) (xs : List ℕ) → 0 < length xs → Rises low n xs → (o : ℕ) × (o < n) × (has xs o ≡ true)
-  some_order low n [] h r = absurd (omega arith)
-  some_order low n (x ∷ xs) h r = (x, r.1, or_left (eqb x x) (has xs x) (eq-eqb x x refl))
-
   pub group_prices_refute : (lambda mu : ℤ) → IsPrice lambda → IsPrice mu → pos 0 ≤ℤ lambda → pos 0 ≤ℤ mu → IfNone limits.loss (lambda ≡ pos 0) → IfNone limits.count (mu ≡ pos 0)
       → ((c : Column) → IsLegalColumn m c → column_agrees decisions c ≡ true → (o : ℕ) → o < length m.orders → has c.orders o ≡ true → value (head_of heads o) ≤ℤ (lambda *ℤ pos (loss_of m c) +ℤ charge (record { lambda = lambda; mu = mu; pi = pi; sigma = replicate (length m.yard) (pos 0) }) c.kind))
       → (lambda *ℤ number_of limits.loss +ℤ mu *ℤ number_of limits.count) <ℤ total_below (length heads) (at_heads heads value)
       → Refutes m limits decisions (record { lambda = lambda; mu = mu; pi = pi; sigma = replicate (length m.yard) (pos 0) })
   group_prices_refute lambda mu lambda_price mu_price lambda_sign mu_sign lambda_missing mu_missing cheap worth = record {
-    range = record { lambda = lambda_price; mu = mu_price; pi = pi_range; sigma = zeros_are_prices (length m.yard) };
+    range = record { lambda = lambda_price; mu = mu_price; pi = range; sigma = zeros_are_prices (length m.yard) };
     pi_length = omega (arith, at.size, heads_size);
     sigma_length = length-zeros (length m.yard);
     lambda_sign = lambda_sign;

@@ -1,5 +1,6 @@
 -- Where the one plan of settled decisions breaks a rule or a limit, the stated prices refute.
-use Rattle.std.proofs.Common.{◌≡◌, ℕ, ◌<◌, ◌≤◌, ℤ, pos, ◌+ℤ◌, ◌*ℤ◌, ◌≤ℤ◌, ◌<ℤ◌, Bool, true, false, cond, eqb, List, length, get_or, refl, sym, ap, ◌∙◌, subst, inl, inr, arith, Option, Some, None, IfNone}
+use Rattle.std.proofs.Common.{◌≡◌, ℕ, ◌<◌, ℤ, pos, ◌+ℤ◌, ◌*ℤ◌, ◌≤ℤ◌, ◌<ℤ◌, Bool, true, false, cond, eqb, List, length, get_or, refl, sym, ap, ◌∙◌, subst, inl, inr, arith, Option, Some, None, IfNone, All}
+use Rattle.std.specs.Prelude.{IsSomeAnd}
 use Rattle.std.proofs.lemmas.Int.{ints}
 use Rattle.std.proofs.lemmas.Bool.{eq-eqb, ne_eqb, cases_eq}
 use Rattle.std.proofs.Math.IntN.{zero-*ℤ}
@@ -38,8 +39,10 @@ one_is_price = (omega (arith, ints), omega (arith, ints))
 zero_is_price : IsPrice (pos 0)
 zero_is_price = (omega (arith, ints), omega (arith, ints))
 
-small_is_price : (n : ℕ) → n ≤ 10000 → IsPrice (pos n)
-small_is_price n h = (omega (arith, ints), omega (arith, ints))
+-- a limit that stands, and what holds of it
+stands_at : (limit : Option ℤ) (P : ℤ → Type 0) → IsSomeAnd limit P → (a : ℤ) × (limit ≡ Some a) × P a
+stands_at None P h = absurd h
+stands_at (Some a) P h = (a, refl, h)
 
 stood : (limit : Option ℤ) (number : ℤ) → limit ≡ Some number → IfNone limit (pos 1 ≡ pos 0)
 stood None number e = cc
@@ -70,7 +73,7 @@ module _ (node : Node) (s : Settlement) (is : IsSettlement node s) where
   head_inside : (o : ℕ) → o < length m.orders → head_of heads o < length m.orders
   head_inside o h = omega (arith, grouped.grouping.before o (omega (arith, is.heads_size)))
 
-  refute : (value : ℕ → ℤ) (pi : List ℤ) → AreAtHeads heads value pi → ((o : ℕ) → o < length heads → IsPrice (value o)) → (lambda mu : ℤ) → IsPrice lambda → IsPrice mu → pos 0 ≤ℤ lambda → pos 0 ≤ℤ mu → IfNone node.limits.loss (lambda ≡ pos 0) → IfNone node.limits.count (mu ≡ pos 0)
+  refute : (value : ℕ → ℤ) (pi : List ℤ) → AreAtHeads heads value pi → All IsPrice pi → (lambda mu : ℤ) → IsPrice lambda → IsPrice mu → pos 0 ≤ℤ lambda → pos 0 ≤ℤ mu → IfNone node.limits.loss (lambda ≡ pos 0) → IfNone node.limits.count (mu ≡ pos 0)
       → ((c : Column) → IsLegalColumn m c → column_agrees decisions c ≡ true → (o : ℕ) → o < length m.orders → has c.orders o ≡ true → value (head_of heads o) ≤ℤ (lambda *ℤ pos (loss_of m c) +ℤ charge (free_prices m lambda mu pi) c.kind))
       → (lambda *ℤ number_of node.limits.loss +ℤ mu *ℤ number_of node.limits.count) <ℤ total_below (length heads) (at_heads heads value)
       → Refutes m node.limits decisions (free_prices m lambda mu pi)
@@ -85,15 +88,11 @@ module _ (node : Node) (s : Settlement) (is : IsSettlement node s) where
   misfit_of rule broken = first_misfit m s.plan rule places_right (λ o h. is.built.within o (omega (arith, is.built.size))) (used_once m heads is.slabs kinds s.plan.kinds s.plan.place grouped is.are is.built) broken
 
   -- the head of an order on a slab that doesn't fit
-  pub misfit_refutes : (k o : ℕ) (pi : List ℤ) → k < length s.plan.kinds → (Fits m (slab s.plan k) → ⊥) → o < length heads → get_or s.plan.place o 0 ≡ k → AreAtHeads heads (only (head_of heads o)) pi → Refutes m node.limits decisions (free_prices m (pos 0) (pos 0) pi)
-  misfit_refutes k o pi inside misfit l there at =
-      refute (only (head_of heads o)) pi at (λ i h. by_test (eqb (head_of heads o) i)) (pos 0) (pos 0) zero_is_price zero_is_price (omega (arith, ints)) (omega (arith, ints)) (missing node.limits.loss) (missing node.limits.count) cheap
+  pub misfit_refutes : (k o : ℕ) (pi : List ℤ) → k < length s.plan.kinds → (Fits m (slab s.plan k) → ⊥) → o < length heads → get_or s.plan.place o 0 ≡ k → AreAtHeads heads (only (head_of heads o)) pi → All IsPrice pi → Refutes m node.limits decisions (free_prices m (pos 0) (pos 0) pi)
+  misfit_refutes k o pi inside misfit l there at range =
+      refute (only (head_of heads o)) pi at range (pos 0) (pos 0) zero_is_price zero_is_price (omega (arith, ints)) (omega (arith, ints)) (missing node.limits.loss) (missing node.limits.count) cheap
       (omega (arith, ints, total, zero-*ℤ (number_of node.limits.loss), zero-*ℤ (number_of node.limits.count)))
     where
-      by_test : (b : Bool) → IsPrice (cond b (pos 1) (pos 0))
-      by_test true = one_is_price
-      by_test false = zero_is_price
-
       low : o < length m.orders
       low = omega (arith, is.heads_size)
 
@@ -155,9 +154,12 @@ module _ (node : Node) (s : Settlement) (is : IsSettlement node s) where
     pub fit : (head : ℕ) → head < length m.orders → head_of heads head ≡ head → Fits m (group_column heads kinds head)
     fit = groups_fit m heads is.slabs kinds s.plan.kinds s.plan.place grouped is.are is.built legal
 
-    pub loss_refutes : (limit : ℤ) (pi : List ℤ) → ((o : ℕ) → o < length heads → loss_of m (group_column heads kinds o) ≤ 10000) → node.limits.loss ≡ Some limit → limit <ℤ pos (sums_of m s.plan).loss → AreAtHeads heads (group_loss m heads kinds) pi → Refutes m node.limits decisions (free_prices m (pos 1) (pos 0) pi)
-    loss_refutes limit pi small stands above at =
-        refute (group_loss m heads kinds) pi at (λ o h. small_is_price (loss_of m (group_column heads kinds o)) (small o h)) (pos 1) (pos 0) one_is_price zero_is_price (omega (arith, ints)) (omega (arith, ints)) (stood node.limits.loss limit stands) (missing node.limits.count) cheap
+    pub loss_refutes : (pi : List ℤ) → IsSomeAnd node.limits.loss (λ a. a <ℤ pos (sums_of m s.plan).loss) → AreAtHeads heads (group_loss m heads kinds) pi → All IsPrice pi → Refutes m node.limits decisions (free_prices m (pos 1) (pos 0) pi)
+    loss_refutes pi high at range =
+        let limit = (stands_at node.limits.loss (λ a. a <ℤ pos (sums_of m s.plan).loss) high).0 in
+        let stands : node.limits.loss ≡ Some limit = (stands_at node.limits.loss (λ a. a <ℤ pos (sums_of m s.plan).loss) high).1 in
+        let above : limit <ℤ pos (sums_of m s.plan).loss = (stands_at node.limits.loss (λ a. a <ℤ pos (sums_of m s.plan).loss) high).2 in
+        refute (group_loss m heads kinds) pi at range (pos 1) (pos 0) one_is_price zero_is_price (omega (arith, ints)) (omega (arith, ints)) (stood node.limits.loss limit stands) (missing node.limits.count) cheap
         (omega (arith, ints, ap number_of stands, above, plan_loss m heads is.slabs kinds s.plan.kinds s.plan.place grouped is.are is.built fit, zero-*ℤ (number_of node.limits.count)))
       where
         charge_zero : (kind : Kind) → charge (free_prices m (pos 1) (pos 0) pi) kind ≡ pos 0
@@ -167,15 +169,14 @@ module _ (node : Node) (s : Settlement) (is : IsSettlement node s) where
         cheap : (c : Column) → IsLegalColumn m c → column_agrees decisions c ≡ true → (o : ℕ) → o < length m.orders → has c.orders o ≡ true → group_loss m heads kinds (head_of heads o) ≤ℤ (pos 1 *ℤ pos (loss_of m c) +ℤ charge (free_prices m (pos 1) (pos 0) pi) c.kind)
         cheap c allowed_legal allowed o h e = omega (arith, ints, own_loss m heads is.slabs kinds c (head_of heads o) (is.are.each (head_of heads o) (head_inside o h)) (of c allowed_legal allowed o h e) allowed_legal.fits, charge_zero c.kind)
 
-    pub count_refutes : (limit : ℤ) (pi : List ℤ) → node.limits.count ≡ Some limit → limit <ℤ pos (sums_of m s.plan).count → AreAtHeads heads (group_count kinds) pi → Refutes m node.limits decisions (free_prices m (pos 0) (pos 1) pi)
-    count_refutes limit pi stands above at =
-        refute (group_count kinds) pi at (λ o h. by_test (is_new (kind_at kinds o))) (pos 0) (pos 1) zero_is_price one_is_price (omega (arith, ints)) (omega (arith, ints)) (missing node.limits.loss) (stood node.limits.count limit stands) cheap
+    pub count_refutes : (pi : List ℤ) → IsSomeAnd node.limits.count (λ b. b <ℤ pos (sums_of m s.plan).count) → AreAtHeads heads (group_count kinds) pi → All IsPrice pi → Refutes m node.limits decisions (free_prices m (pos 0) (pos 1) pi)
+    count_refutes pi high at range =
+        let limit = (stands_at node.limits.count (λ b. b <ℤ pos (sums_of m s.plan).count) high).0 in
+        let stands : node.limits.count ≡ Some limit = (stands_at node.limits.count (λ b. b <ℤ pos (sums_of m s.plan).count) high).1 in
+        let above : limit <ℤ pos (sums_of m s.plan).count = (stands_at node.limits.count (λ b. b <ℤ pos (sums_of m s.plan).count) high).2 in
+        refute (group_count kinds) pi at range (pos 0) (pos 1) zero_is_price one_is_price (omega (arith, ints)) (omega (arith, ints)) (missing node.limits.loss) (stood node.limits.count limit stands) cheap
         (omega (arith, ints, ap number_of stands, above, plan_count m heads is.slabs kinds s.plan.kinds s.plan.place grouped is.are is.built, zero-*ℤ (number_of node.limits.loss)))
       where
-        by_test : (b : Bool) → IsPrice (pos (cond b 1 0))
-        by_test true = one_is_price
-        by_test false = zero_is_price
-
         charge_is : (kind : Kind) → charge (free_prices m (pos 0) (pos 1) pi) kind ≡ pos (cond (is_new kind) 1 0)
         charge_is (New u) = refl
         charge_is (Old t) = zero_price (length m.yard) t

@@ -74,3 +74,75 @@ fn misfit(
     let pi = one_group(alloc, &settlement.heads, head)?;
     prices_by(alloc, node.mill, 0, 0, pi)
 }
+
+// Where the plan loses more than the limit, each group is worth what it loses, and no column of it loses less.
+fn loss_prices(
+    alloc: Global,
+    node: &Node<'_>,
+    settlement: &Settlement,
+) -> Result<Prices, AllocError>
+    requires settlement { IsSettlement node.now settlement.now }
+    requires legal { IsLegal node.now.mill.now settlement.now.plan }
+    requires above { IsSomeAnd node.now.limits.loss (λ a. a <ℤ pos (sums_of node.now.mill.now settlement.now.plan).loss) }
+    ensures { IfOk result (Refutes node.now.mill.now node.now.limits node.now.decisions.now.list) }
+{
+    let pi = losses_of(alloc, node.mill, &settlement.heads, &settlement.kinds)?;
+    prices_by(alloc, node.mill, 1, 0, pi)
+}
+
+// Where the plan has more new slabs than the limit, each group on one is worth 1, which is what a new slab costs.
+fn count_prices(
+    alloc: Global,
+    node: &Node<'_>,
+    settlement: &Settlement,
+) -> Result<Prices, AllocError>
+    requires settlement { IsSettlement node.now settlement.now }
+    requires legal { IsLegal node.now.mill.now settlement.now.plan }
+    requires above { IsSomeAnd node.now.limits.count (λ b. b <ℤ pos (sums_of node.now.mill.now settlement.now.plan).count) }
+    ensures { IfOk result (Refutes node.now.mill.now node.now.limits node.now.decisions.now.list) }
+{
+    let pi = counts_of(alloc, &settlement.heads, &settlement.kinds)?;
+    prices_by(alloc, node.mill, 0, 1, pi)
+}
+
+// The plan where it is within the limits, else the prices that show that no plan is.
+fn limited(
+    alloc: Global,
+    node: &Node<'_>,
+    settlement: Settlement,
+    sums: Sums,
+) -> Result<Turned, AllocError>
+    requires settlement { IsSettlement node.now settlement }
+    requires legal { IsLegal node.now.mill.now settlement.plan }
+    requires sums { sums ≡ sums_of node.now.mill.now settlement.plan }
+    ensures refuted { IfOk result (λ t. IfRefuted t (Refutes node.now.mill.now node.now.limits node.now.decisions.now.list)) }
+    ensures in_box { IfOk result (λ t. IfInBox t (IsInBox node.now.mill.now node.now.limits node.now.decisions.now.list)) }
+    ensures closed { IfOk result IsClosed }
+{
+    if exceeds(sums.loss, node.limits.loss) {
+        return Ok(Turned::Refuted(loss_prices(alloc, node, &settlement)?));
+    }
+    if exceeds(u32::from(sums.count), node.limits.count) {
+        return Ok(Turned::Refuted(count_prices(alloc, node, &settlement)?));
+    }
+    let Settlement {
+        heads: _heads,
+        kinds: _kinds,
+        plan,
+    } = settlement;
+    Ok(Turned::InBox(plan))
+}
+
+// The turn of a node whose decisions are settled: the one plan that agrees, or prices.
+pub(crate) fn settle(alloc: Global, node: &Node<'_>) -> Result<Turned, AllocError>
+    requires { IsSettledNode node.now }
+    ensures refuted { IfOk result (λ t. IfRefuted t (Refutes node.now.mill.now node.now.limits node.now.decisions.now.list)) }
+    ensures in_box { IfOk result (λ t. IfInBox t (IsInBox node.now.mill.now node.now.limits node.now.decisions.now.list)) }
+    ensures closed { IfOk result IsClosed }
+{
+    let settlement = Settlement::new(alloc, node)?;
+    match settlement.plan.judge(node.mill) {
+        Ok(sums) => limited(alloc, node, settlement, sums),
+        Err(rule) => Ok(Turned::Refuted(misfit(alloc, node, &settlement, rule)?)),
+    }
+}
