@@ -4,6 +4,7 @@
 
 mod groups;
 mod kinds;
+mod plain;
 mod plans;
 mod settle;
 mod settlement;
