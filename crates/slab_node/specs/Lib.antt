@@ -8,3 +8,4 @@ pub mod Settled
 pub mod Stated
 pub mod Misfits
 pub mod Settlements
+pub mod Shares

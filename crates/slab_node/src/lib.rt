@@ -11,6 +11,7 @@ mod settlement;
 mod stated;
 mod turned;
 mod turning;
+mod wholes;
 
 pub use slab_relax::{Cover, Tally};
 pub use turned::Turned;
