@@ -5,9 +5,9 @@ ghost use Rattle.mill_model.specs.Columns.{Rises, has};
 ghost use Rattle.slab_relax.specs.PoolCovers.{parts_of};
 ghost use Rattle.slab_node.specs.Shares.{AreTimes, share};
 
-use slab_columns::Pool;
+use mill_model::Kind;
+use slab_columns::{ColId, Pool};
 use slab_frac::Frac;
-use slab_columns::ColId;
 
 /// Columns of a pool with whole multipliers.
 #[derive(Clone, Copy)]
@@ -41,6 +41,25 @@ impl Wholes<'_> {
             let column = self.pool.column(part.0);
             if column.orders.contains(&order) {
                 add_at(shares, column.orders, u128::from(self.times[p].unsigned_abs()));
+            }
+        }
+    }
+
+    // For each surplus slab, how much of the cover has this order on it.
+    fn put_shares(&self, order: u16, shares: &mut [u128])
+        requires { length shares.old ≡ length self.now.pool.now.mill.yard }
+        ensures size { length shares.new ≡ length shares.old }
+        ensures shares { (s : ℕ) → s < length shares.old → slice_index shares.new s ≡ share (parts_of self.now.pool.now.columns self.now.cover.now self.now.times.now) (Ask.Put order s) }
+    {
+        shares.fill(0);
+        for (p, part) in self.cover.iter().enumerate() {
+            let column = self.pool.column(part.0);
+            let slab = match column.kind {
+                Kind::Old(slab) => slab,
+                Kind::New(_size) => continue,
+            };
+            if column.orders.contains(&order) {
+                shares[slab as usize] += u128::from(self.times[p].unsigned_abs());
             }
         }
     }
