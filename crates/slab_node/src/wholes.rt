@@ -1,20 +1,24 @@
 //! A cover with whole multipliers, and how much of it answers each question by yes.
-ghost use Rattle.std.specs.Prelude.{◌≡◌, ℕ, ◌+◌, ◌*◌, ◌^◌, ◌<◌, ◌≤◌, cond, length, slice_index, unsigned_abs};
+ghost use Rattle.std.specs.Prelude.{◌≡◌, ℕ, ◌+◌, ◌*◌, ◌^◌, ◌<◌, ◌≤◌, cond, IfOk, IfSome, IfNone, length, slice_index, unsigned_abs};
 ghost use Rattle.mill_model.specs.declared.ask.Ask.{Ask};
 ghost use Rattle.mill_model.specs.Columns.{Rises, has};
+ghost use Rattle.mill_model.specs.Decisions.{IsAsk};
 ghost use Rattle.slab_relax.specs.PoolCovers.{parts_of};
-ghost use Rattle.slab_node.specs.Shares.{AreTimes, share};
+ghost use Rattle.slab_node.specs.Shares.{AreTimes, share, IsFractional};
 
-use mill_model::Kind;
+use mill_model::{Ask, Kind, Mill};
+use std::alloc::{AllocError, Global};
 use slab_columns::{ColId, Pool};
 use slab_frac::Frac;
 
 /// Columns of a pool with whole multipliers.
 #[derive(Clone, Copy)]
 pub(crate) struct Wholes<'a> {
+    pub mill: &'a Mill,
     pub pool: &'a Pool,
     pub cover: &'a [(ColId, Frac)],
     pub times: &'a [i64],
+    ghost belongs: { pool.now.mill ≡ mill.now },
     ghost numbers: { AreTimes pool.now.columns cover.now times.now },
 }
 
@@ -29,10 +33,23 @@ fn add_at(sums: &mut [u128], places: &[u16], amount: u128)
     }
 }
 
+// The first sum from a place on that is above 0 and below the whole.
+fn first_partial(sums: &[u128], from: usize, whole: u128) -> Option<usize>
+    ensures some { IfSome result (λ j. (from ≤ j) × (j < length sums.now) × (0 < slice_index sums.now j) × (slice_index sums.now j < whole)) }
+    ensures none { IfNone result ((j : ℕ) → from ≤ j → j < length sums.now → 0 < slice_index sums.now j → slice_index sums.now j < whole → ⊥) }
+{
+    for j in from..sums.len() {
+        if 0 < sums[j] && sums[j] < whole {
+            return Some(j);
+        }
+    }
+    None
+}
+
 impl Wholes<'_> {
     // For each order, how much of the cover has it together with this one.
     fn pair_shares(&self, order: u16, shares: &mut [u128])
-        requires { length shares.old ≡ length self.now.pool.now.mill.orders }
+        requires { length shares.old ≡ length self.now.mill.now.orders }
         ensures size { length shares.new ≡ length shares.old }
         ensures shares { (j : ℕ) → j < length shares.old → slice_index shares.new j ≡ share (parts_of self.now.pool.now.columns self.now.cover.now self.now.times.now) (Ask.Pair order j) }
     {
@@ -47,7 +64,7 @@ impl Wholes<'_> {
 
     // For each surplus slab, how much of the cover has this order on it.
     fn put_shares(&self, order: u16, shares: &mut [u128])
-        requires { length shares.old ≡ length self.now.pool.now.mill.yard }
+        requires { length shares.old ≡ length self.now.mill.now.yard }
         ensures size { length shares.new ≡ length shares.old }
         ensures shares { (s : ℕ) → s < length shares.old → slice_index shares.new s ≡ share (parts_of self.now.pool.now.columns self.now.cover.now self.now.times.now) (Ask.Put order s) }
     {
@@ -62,5 +79,37 @@ impl Wholes<'_> {
                 shares[slab as usize] += u128::from(self.times[p].unsigned_abs());
             }
         }
+    }
+
+    // The first pair that the cover answers in part.
+    fn partial_pair(&self, alloc: Global, whole: u64) -> Result<Option<Ask>, AllocError>
+        ensures some { IfOk result (λ found. IfSome found (λ ask. IsAsk self.now.mill.now ask × IsFractional whole (parts_of self.now.pool.now.columns self.now.cover.now self.now.times.now) ask)) }
+        ensures none { IfOk result (λ found. IfNone found ((i j : ℕ) → i < j → j < length self.now.mill.now.orders → IsFractional whole (parts_of self.now.pool.now.columns self.now.cover.now self.now.times.now) (Ask.Pair i j) → ⊥)) }
+    {
+        let count = self.mill.orders().len();
+        let mut shares = vec![in alloc; 0; count]?;
+        for i in 0..count {
+            self.pair_shares(i as u16, &mut shares);
+            if let Some(j) = first_partial(&shares, i + 1, u128::from(whole)) {
+                return Ok(Some(Ask::Pair(i as u16, j as u16)));
+            }
+        }
+        Ok(None)
+    }
+
+    // The first put that it answers in part.
+    fn partial_put(&self, alloc: Global, whole: u64) -> Result<Option<Ask>, AllocError>
+        ensures some { IfOk result (λ found. IfSome found (λ ask. IsAsk self.now.mill.now ask × IsFractional whole (parts_of self.now.pool.now.columns self.now.cover.now self.now.times.now) ask)) }
+        ensures none { IfOk result (λ found. IfNone found ((o s : ℕ) → o < length self.now.mill.now.orders → s < length self.now.mill.now.yard → IsFractional whole (parts_of self.now.pool.now.columns self.now.cover.now self.now.times.now) (Ask.Put o s) → ⊥)) }
+    {
+        let count = self.mill.yard().len();
+        let mut shares = vec![in alloc; 0; count]?;
+        for order in 0..self.mill.orders().len() {
+            self.put_shares(order as u16, &mut shares);
+            if let Some(slab) = first_partial(&shares, 0, u128::from(whole)) {
+                return Ok(Some(Ask::Put(order as u16, slab as u16)));
+            }
+        }
+        Ok(None)
     }
 }

@@ -1,6 +1,7 @@
 use Rattle.std.proofs.Common.{rules, ◌≡◌, ◌+◌, ◌^◌, ◌<◌, ◌≤◌, ◌&&◌, pos, Bool, length, get_or, true, false, sym, refl, ap, ◌∙◌, subst, arith, length-set}
 use Rattle.std.specs.Prelude.{unsigned_abs}
 use Rattle.mill_model.specs.declared.kind.Kind.{Kind}
+use Rattle.mill_model.specs.Mill.{Mill}
 use Rattle.mill_model.specs.Columns.{has, is_old, IsInStock}
 use Rattle.slab_columns.specs.Columns.{lent_column}
 use Rattle.slab_columns.specs.declared.column.ColId.{ColId}
@@ -32,7 +33,7 @@ loop-p-preserved c =
     let column : column_at c.args.self.now.pool.now.columns (get_or c.args.self.now.cover.now c.loop-p.p c.part-item.result).0 ≡ lent_column c.column-column.result =
         ap (λ (part : ColId × Fraction). column_at c.args.self.now.pool.now.columns part.0) (sym c.part-item.is) ∙ column_is c.args.self.now.pool.now.columns c.part-item.result.0 (lent_column c.column-column.result) c.column-column.ensures.value in
     let contains : c.contains.result ≡ has c.column-column.result.orders.now c.args.order = search rules in
-    let stock : c.in-Old.slab < length c.args.shares.now = omega (arith, c.requires, subst (IsInStock c.args.self.now.pool.now.mill) c.in-Old.is c.column-column.ensures.legal.fits.kind) in
+    let stock : c.in-Old.slab < length c.args.shares.now = omega (arith, c.requires, subst (IsInStock c.args.self.now.mill.now) c.in-Old.is (subst (λ (m : Mill). IsInStock m c.column-column.result.kind) c.args.self.now.belongs c.column-column.ensures.legal.fits.kind)) in
     elim c.if-contains.branch [
       | then-contains w ↦
           let amount : w.from.result ≡ unsigned_abs (get_or c.args.self.now.times.now c.loop-p.p (pos 0)) = search rules in
