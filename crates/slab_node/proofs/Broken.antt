@@ -64,7 +64,7 @@ first_misfit m p rule places within once broken =
     }
   where
     numbers : (k : ℕ) → AllByRecursion (λ (r : Illegal). slab_number r ≡ Some k) (slab_rules k)
-    numbers k = (refl, (refl, (refl, (refl, (refl, (refl, tt))))))
+    numbers k = (refl, (refl, (refl, (refl, (refl, (refl, (refl, tt)))))))
 
     none : None ≡ Some rule → ⊥
     none e = cc

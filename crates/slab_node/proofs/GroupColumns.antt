@@ -38,7 +38,7 @@ better : (m : Mill) (slab : Option ℕ) (own other : Kind) (orders : List ℕ) �
 better m None (New u) (New v) orders is e fits =
     let least : IsLeastSize m.sizes (load m orders) u = is fits.kind.0 v fits.kind.1 (subst (λ (z : ℕ). load m orders ≤ z) (sym fits.kind.2) fits.weight) in
     let smaller : u ≤ v = subst (λ (z : ℕ). u ≤ z) fits.kind.2 (least.least fits.kind.0 v fits.kind.1 (subst (λ (z : ℕ). load m orders ≤ z) (sym fits.kind.2) fits.weight)) in
-    (record { kind = least.listed; some = fits.some; weight = least.holds; colours = fits.colours }, smaller)
+    (record { kind = least.listed; some = fits.some; weight = least.holds; colours = fits.colours; bars = fits.bars }, smaller)
 better m None (New u) (Old t) orders is e fits = cc
 better m None (Old r) other orders is e fits = absurd is
 better m (Some r) own (New v) orders is e fits = cc

@@ -40,6 +40,7 @@ fn slab_number(rule: Illegal) -> Option<u16>
         Illegal::Twice(slab) => Some(slab),
         Illegal::Load(slab) => Some(slab),
         Illegal::Colours(slab) => Some(slab),
+        Illegal::Barred(slab) => Some(slab),
     }
 }
 
