@@ -49,7 +49,7 @@ pub master_grows : (m : Mill) (limits : Limits) (decisions : List Decision) (col
     → now ≡ record before { columns = before.columns ++ entries_of m limits c ∷ [] } → now ≡ master_by m limits decisions (columns ++ c ∷ [])
 master_grows m limits decisions columns c before now agree was is =
     let grown : map (entries_of m limits) (allowed_of decisions (columns ++ c ∷ [])) ≡ map (entries_of m limits) (allowed_of decisions columns) ++ entries_of m limits c ∷ [] =
-        ap (map (entries_of m limits)) (allowed_grows decisions columns c agree) ∙ map-append (entries_of m limits) (allowed_of decisions columns) (c ∷ []) in
+    ap (map (entries_of m limits)) (allowed_grows decisions columns c agree) ∙ map-append (entries_of m limits) (allowed_of decisions columns) (c ∷ []) in
     is ∙ ap (λ (g : Given). record g { columns = g.columns ++ entries_of m limits c ∷ [] }) was ∙ ap (λ (cs : List MasterColumn). record { rows = rows_of m limits; columns = cs }) (sym grown)
 
 pub master_stays : (m : Mill) (limits : Limits) (decisions : List Decision) (columns : List Column) (c : Column) (before : Given) → column_agrees decisions c ≡ false → before ≡ master_by m limits decisions columns → before ≡ master_by m limits decisions (columns ++ c ∷ [])

@@ -26,7 +26,7 @@ use Rattle.slab_relax.proofs.Covering.{cover_of}
 use Rattle.slab_relax.proofs.Using.{IsUsable, IsFilled, above_is, filled, without_them}
 
 -- a multiplier for each number
-ids_count : (m : Mill) (limits : Limits) (decisions : List Decision) (columns : List Column) (ids : List ColId) (xs : List Fraction) → AreAllowedIds decisions columns ids → IsSpread (rows_of m limits) (map (entries_of m limits) (allowed_of decisions columns)) xs → length xs ≡ length ids
+pub ids_count : (m : Mill) (limits : Limits) (decisions : List Decision) (columns : List Column) (ids : List ColId) (xs : List Fraction) → AreAllowedIds decisions columns ids → IsSpread (rows_of m limits) (map (entries_of m limits) (allowed_of decisions columns)) xs → length xs ≡ length ids
 ids_count m limits decisions columns ids xs numbers spread = omega (arith, spread.count, length-map (allowed_of decisions columns) (entries_of m limits), ap length numbers.named, length-map ids (column_at columns))
 
 -- ---- multipliers that aren't negative
@@ -39,7 +39,7 @@ not_below (pos k) (negsuc n) den d h l e =
     let high : pos k *ℤ pos den ≡ pos (k * den) = omega (arith, ints) in
     absurd (omega (arith, ints, low, high, e, *ℤ_comm (negsuc n) (pos d), mul_zero (pos d)))
 
-are_usable : (d : ℕ) (xs : List Fraction) (ks : List ℤ) → 0 < d → IsScaled d xs ks → All (λ k. pos 0 ≤ℤ k) ks → All IsUsable xs
+pub are_usable : (d : ℕ) (xs : List Fraction) (ks : List ℤ) → 0 < d → IsScaled d xs ks → All (λ k. pos 0 ≤ℤ k) ks → All IsUsable xs
 are_usable d [] [] l s signs = λ j e h. absurd (omega arith)
 are_usable d [] (k ∷ ks) l s signs = absurd s
 are_usable d (x ∷ xs) [] l s signs = absurd s

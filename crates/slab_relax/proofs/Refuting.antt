@@ -8,6 +8,7 @@ use Rattle.mill_model.specs.declared.limits.Limits.{Limits}
 use Rattle.mill_model.specs.Mill.{Mill}
 use Rattle.mill_model.specs.Decisions.{Decision}
 use Rattle.mill_model.specs.Prices.{IsPrice, ArePrices, Refutes}
+use Rattle.mill_model.proofs.Duality.{AreSlabPrices}
 use Rattle.slab_frac.specs.Scaled.{AreInRange}
 use Rattle.slab_master.specs.declared.given.Sense.TheVariants.{AtMost}
 use Rattle.slab_master.specs.Given.{Row}
@@ -79,11 +80,9 @@ sigma_length m limits ys size = omega (arith, length-map (take (length m.yard) (
 pub lambda_sign : (m : Mill) (limits : Limits) (ys : List ℤ) → HaveSigns m limits ys → pos 0 ≤ℤ (prices_of m limits ys).lambda
 lambda_sign m limits ys signs = price_sign limits.loss (number_at ys (loss_row m)) (loss_sign m limits ys signs)
 
--- prices that a master gave, brought to whole numbers, refute where no legal column that agrees exceeds them
-pub refutes_of : (m : Mill) (limits : Limits) (decisions : List Decision) (ys : List ℤ) → length ys ≡ length m.orders + length m.yard + 2 → AreInRange ys → HaveSigns m limits ys → pos 0 <ℤ right_product ys (rows_of m limits)
-    → IsGreatest m decisions (prices_of m limits ys) (pos 0) → Refutes m limits decisions (prices_of m limits ys)
-refutes_of m limits decisions ys size range signs above greatest = record {
-  range = prices_in_range m limits ys size range;
+-- numbers that are at most 0 on the AtMost rows are prices of orders and slabs
+pub slab_prices_of : (m : Mill) (limits : Limits) (ys : List ℤ) → length ys ≡ length m.orders + length m.yard + 2 → HaveSigns m limits ys → AreSlabPrices m limits (prices_of m limits ys)
+slab_prices_of m limits ys size signs = record {
   pi_length = omega (arith, length-take (length m.orders) ys);
   sigma_length = sigma_length m limits ys size;
   lambda_sign = lambda_sign m limits ys signs;
@@ -92,9 +91,25 @@ refutes_of m limits decisions ys size range signs above greatest = record {
       (λ s h. omega (arith, ints, slab_price m limits ys s (omega (arith, sigma_length m limits ys size)), slab_sign m limits ys signs s (omega (arith, sigma_length m limits ys size))));
   lambda_missing = price_missing limits.loss (number_at ys (loss_row m));
   mu_missing = price_missing limits.count (number_at ys (count_row m));
-  columns = λ c legal agree. priced_from_excess m (prices_of m limits ys) c (greatest c legal agree);
-  worth = turn _ _ (subst (λ z. pos 0 <ℤ z) (right_is_worth m limits ys) above);
 }
+
+-- prices that a master gave, brought to whole numbers, refute where no legal column that agrees exceeds them
+pub refutes_of : (m : Mill) (limits : Limits) (decisions : List Decision) (ys : List ℤ) → length ys ≡ length m.orders + length m.yard + 2 → AreInRange ys → HaveSigns m limits ys → pos 0 <ℤ right_product ys (rows_of m limits)
+    → IsGreatest m decisions (prices_of m limits ys) (pos 0) → Refutes m limits decisions (prices_of m limits ys)
+refutes_of m limits decisions ys size range signs above greatest =
+    let prices = slab_prices_of m limits ys size signs in
+    record {
+      range = prices_in_range m limits ys size range;
+      pi_length = prices.pi_length;
+      sigma_length = prices.sigma_length;
+      lambda_sign = prices.lambda_sign;
+      mu_sign = prices.mu_sign;
+      sigma_sign = prices.sigma_sign;
+      lambda_missing = prices.lambda_missing;
+      mu_missing = prices.mu_missing;
+      columns = λ c legal agree. priced_from_excess m (prices_of m limits ys) c (greatest c legal agree);
+      worth = turn _ _ (subst (λ z. pos 0 <ℤ z) (right_is_worth m limits ys) above);
+    }
   where
     turn : (pi cost : ℤ) → pos 0 <ℤ (pi -ℤ cost) → cost <ℤ pi
     turn pi cost h = omega (arith, ints)

@@ -23,7 +23,7 @@ use Rattle.slab_relax.proofs.Refuting.{refutes_of, lambda_sign}
 use Rattle.slab_relax.proofs.Covering.{IsAllowed, AreAllowed}
 
 -- what holds of what a function gives holds at each argument
-at_each : (P : MasterColumn → Type 0) (f : Column → MasterColumn) (xs : List Column) (c : Column) → All P (map f xs) → Contains xs c → P (f c)
+pub at_each : (P : MasterColumn → Type 0) (f : Column → MasterColumn) (xs : List Column) (c : Column) → All P (map f xs) → Contains xs c → P (f c)
 at_each P f [] c all (k, l, e) = absurd (omega arith)
 at_each P f (x ∷ xs) c all (zero, l, e) = subst (λ z. P (f z)) e (All-head P (f x) (map f xs) all)
 at_each P f (x ∷ xs) c all (suc k, l, e) = at_each P f xs c (All-tail P (f x) (map f xs) all) (k, omega arith, e)

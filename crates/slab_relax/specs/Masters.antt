@@ -1,11 +1,11 @@
 -- The restricted master of a node: the pool's columns that agree with the decisions, over the rows of the mill.
-use Rattle.std.specs.Prelude.{◌≡◌, ◌+◌, ◌<◌, ℤ, List, map, length}
+use Rattle.std.specs.Prelude.{◌≡◌, ◌+◌, ◌<◌, ℤ, pos, List, map, length}
 use Rattle.std.specs.List.{All, filter, zip}
 use Rattle.std.specs.Int.{is_positive}
 use Rattle.slab_frac.specs.Fraction.{Fraction}
 use Rattle.mill_model.specs.declared.limits.Limits.{Limits}
 use Rattle.mill_model.specs.Mill.{Mill}
-use Rattle.mill_model.specs.Columns.{Column}
+use Rattle.mill_model.specs.Columns.{Column, loss_of}
 use Rattle.mill_model.specs.Decisions.{Decision, column_agrees}
 use Rattle.mill_model.specs.Prices.{Prices}
 use Rattle.slab_frac.specs.Scaled.{AreInRange}
@@ -47,3 +47,7 @@ pub record AreFarkas (m : Mill) (limits : Limits) (given : Given) (p : Prices) :
 -- the numbers of the columns with a multiplier above 0, each with it
 abbrev pub used_of : List ColId → List Fraction → Parts
 used_of ids xs = filter (λ (part : ColId × Fraction). is_positive part.1.num) (zip ids xs)
+
+-- what columns lose, as costs
+abbrev pub losses_of : Mill → List Column → List ℤ
+losses_of m cs = map (λ (c : Column). pos (loss_of m c)) cs

@@ -4,6 +4,7 @@
 mod cover;
 mod duals;
 mod entries;
+mod least;
 mod node;
 mod relaxed;
 mod relaxing;

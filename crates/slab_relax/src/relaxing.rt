@@ -2,7 +2,7 @@
 ghost use Rattle.std.specs.Prelude.{◌≡◌, IfOk};
 ghost use Rattle.mill_model.specs.Prices.{Refutes};
 ghost use Rattle.slab_columns.specs.Pool.{HasGrown};
-ghost use Rattle.slab_relax.specs.PoolCovers.{IsPoolCover};
+ghost use Rattle.slab_relax.specs.PoolCovers.{IsPoolCover, HasLeastLoss};
 ghost use Rattle.slab_relax.specs.Tallies.{AreNoLess, HasCause};
 ghost use Rattle.slab_relax.specs.Rounds.{IfRefuted, IfCovered, OnCounted};
 
@@ -13,8 +13,9 @@ use slab_columns::Pool;
 use std::alloc::{AllocError, Global};
 
 /// Solves the relaxation of a node, column by column: each round solves the master over the columns of the pool that agree
-/// with the decisions, and where that has no cover, the column that its prices leave dearest joins the pool. The pool may
-/// hold any columns of the mill.
+/// with the decisions, and where that has no cover, the column that its prices leave dearest joins the pool. Of the covers
+/// over the columns that are there it gives one of least loss, unless a counter rises. The pool may hold any columns of the
+/// mill.
 ///
 /// The only error is want of memory: the pool may have gained columns, and the counters may have risen.
 pub fn relax(
@@ -27,6 +28,8 @@ pub fn relax(
     ensures refuted { IfOk result (λ r. IfRefuted r (Refutes node.now.mill.now node.now.limits node.now.decisions.now.list)) }
     ensures covered { IfOk result (λ r. IfCovered r (IsPoolCover node.now.mill.now node.now.limits node.now.decisions.now.list pool.new.columns)) }
     ensures counted { IfOk result (λ r. OnCounted r (HasCause tally.old tally.new)) }
+    ensures least { (HasCause tally.old tally.new → ⊥)
+        → IfOk result (λ r. IfCovered r (HasLeastLoss node.now.mill.now node.now.limits node.now.decisions.now.list pool.new.columns)) }
     ensures counters { AreNoLess tally.old tally.new }
     ensures grown { HasGrown pool.old pool.new }
 {
@@ -36,7 +39,7 @@ pub fn relax(
             Round::Grew => {}
             Round::Refuted(prices) => return Ok(Relaxed::Refuted(prices)),
             Round::Met(multipliers) => {
-                let cover = restricted.cover(alloc, node, pool, multipliers.list())?;
+                let cover = restricted.least_cover(alloc, node, pool, &multipliers, tally)?;
                 return Ok(Relaxed::Covered(cover));
             }
             Round::Counted => return Ok(Relaxed::Counted),

@@ -90,13 +90,7 @@ impl Restricted {
             Outcome::Stalled => return Ok(Round::Counted),
             Outcome::Prices(list) => list,
         };
-        let scaled = self.prices(
-            alloc,
-            node.mill,
-            node.limits,
-            list.list(),
-            &mut tally.wides,
-        )?;
+        let scaled = self.prices(alloc, node.mill, node.limits, list.list(), &mut tally.wides)?;
         let prices = match scaled {
             Some(prices) => prices,
             None => return Ok(Round::Counted),

@@ -36,7 +36,8 @@ impl Restricted {
         requires mill { pool.now.mill ≡ node.now.mill.now }
         requires restricted { IsRestricted node.now pool.now.columns self.now }
         requires spread { IsSpread self.now.master.rows self.now.master.columns multipliers.now }
-        ensures { IfOk result (IsPoolCover node.now.mill.now node.now.limits node.now.decisions.now.list pool.now.columns) }
+        ensures value { IfOk result (λ cover. cover ≡ used_of self.now.ids.items multipliers.now) }
+        ensures covers { IfOk result (IsPoolCover node.now.mill.now node.now.limits node.now.decisions.now.list pool.now.columns) }
     {
         let _legal = pool.len();
         self.used(alloc, multipliers)
