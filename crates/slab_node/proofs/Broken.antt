@@ -37,7 +37,7 @@ found_in : {X : Type 0} (test : X → Bool) (f : ℕ → List X) (first n : ℕ)
 found_in test f first zero x e = cc
 found_in {X = X} test f first (suc n) x e =
     let parts : option_or (find test (f first)) (find test (flat_map f (range_with_len (first + 1) n))) ≡ Some x =
-        sym (find-append test (f first) (flat_map f (range_with_len (first + 1) n))) ∙ ap (find test) (sym (flat_map-cons f first (range_with_len (first + 1) n))) ∙ e in
+    sym (find-append test (f first) (flat_map f (range_with_len (first + 1) n))) ∙ ap (find test) (sym (flat_map-cons f first (range_with_len (first + 1) n))) ∙ e in
     by (find test (f first)) refl parts (λ q. found_in test f (first + 1) n x q)
   where
     by : (o : Option X) → find test (f first) ≡ o → option_or o (find test (flat_map f (range_with_len (first + 1) n))) ≡ Some x → (find test (flat_map f (range_with_len (first + 1) n)) ≡ Some x → IsFoundIn test f (first + 1) n x) → IsFoundIn test f first (suc n) x
@@ -54,7 +54,7 @@ pub record IsMisfit (m : Mill) (p : Plan) (rule : Illegal) : Type 0 where
 pub first_misfit : (m : Mill) (p : Plan) (rule : Illegal) → length p.place ≡ length m.orders → ((o : ℕ) → o < length p.place → get_or p.place o 0 < length p.kinds) → ((s : ℕ) → count_by (is_old s) p.kinds ≤ 1) → first_broken m p ≡ Some rule → IsMisfit m p rule
 first_misfit m p rule places within once broken =
     let among : find (breaks m p) (flat_map slab_rules (range_with_len 0 (length p.kinds))) ≡ Some rule =
-        sym (find-none_append (breaks m p) (Places ∷ map Place (range_with_len 0 (length p.place))) (flat_map slab_rules (range_with_len 0 (length p.kinds))) (no_place m p places within)) ∙ broken in
+    sym (find-none_append (breaks m p) (Places ∷ map Place (range_with_len 0 (length p.place))) (flat_map slab_rules (range_with_len 0 (length p.kinds))) (no_place m p places within)) ∙ broken in
     let it = found_in (breaks m p) slab_rules 0 (length p.kinds) rule among in
     record {
       slab_is = it.number;

@@ -1,5 +1,5 @@
 -- A column that has the orders of a group, beside the group's own slab: the own slab fits where the column does, and loses no more.
-use Rattle.std.proofs.Common.{◌≡◌, ℕ, ◌≤◌, Bool, cond, eqb, List, [], ◌∷◌, refl, sym, ap, ap₂, ◌∙◌, subst, arith, Option, Some, None, ◌&&◌, not}
+use Rattle.std.proofs.Common.{◌≡◌, ℕ, ◌≤◌, Bool, true, false, cond, eqb, List, [], ◌∷◌, refl, sym, ap, ap₂, ◌∙◌, subst, arith, Option, Some, None, ◌&&◌, not}
 use Rattle.mill_model.specs.declared.kind.Kind.{Kind}
 use Rattle.mill_model.specs.declared.kind.Kind.TheVariants.{New, Old}
 use Rattle.mill_model.specs.declared.ask.Ask.{Ask}
@@ -51,8 +51,10 @@ better m (Some r) own (Old t) orders is e fits =
 
 -- agreement sees the orders and the surplus slab
 agrees_alike : (c d : Column) (ask : Ask) (b : Bool) → c.orders ≡ d.orders → ((s : ℕ) → is_old s c.kind ≡ is_old s d.kind) → agrees c (ask, b) ≡ agrees d (ask, b)
-agrees_alike c d (Pair i j) b e f = ap (λ (os : List ℕ). cond b (cond (has os i) (has os j) (not (has os j))) (not (has os i && has os j))) e
-agrees_alike c d (Put o s) b e f = ap₂ (λ (os : List ℕ) (on : Bool). cond b (cond (has os o) on (not on)) (not (has os o && on))) e (f s)
+agrees_alike c d (Pair i j) true e f = ap (λ (os : List ℕ). cond (has os i) (has os j) (not (has os j))) e
+agrees_alike c d (Pair i j) false e f = ap (λ (os : List ℕ). not (has os i && has os j)) e
+agrees_alike c d (Put o s) true e f = ap₂ (λ (os : List ℕ) (on : Bool). cond (has os o) on (not on)) e (f s)
+agrees_alike c d (Put o s) false e f = ap₂ (λ (os : List ℕ) (on : Bool). not (has os o && on)) e (f s)
 
 module _ (m : Mill) (heads : List ℕ) (slabs : List (Option ℕ)) (kinds : List Kind) (c : Column) (head : ℕ) (is : IsKindFor m (slab_at slabs head) (load m (group_of heads head)) (kind_at kinds head)) (of : IsOfGroup heads slabs c head) where
   pub group_is_old : (s : ℕ) → is_old s (kind_at kinds head) ≡ is_old s c.kind

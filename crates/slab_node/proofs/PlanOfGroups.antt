@@ -165,8 +165,8 @@ module _ (m : Mill) (heads : List ℕ) (slabs : List (Option ℕ)) (kinds used :
   plan_loss fits =
       let sizes : pos (sum_by (size_of m) used) ≡ total_below (length heads) (at_heads heads (λ head. pos (size_of m (kind_at kinds head)))) = built.total (size_of m) in
       let parts : total_below (length heads) (at_heads heads (λ head. pos (size_of m (kind_at kinds head)))) ≡ total_below (length heads) (at_heads heads (λ head. pos (loss_of m (group_column heads kinds head)))) +ℤ total_below (length heads) (at_heads heads (λ head. pos (load m (group_of heads head)))) =
-          total_below-ext (length heads) (at_heads heads (λ head. pos (size_of m (kind_at kinds head)))) (λ head. at_heads heads (λ h. pos (loss_of m (group_column heads kinds h))) head +ℤ at_heads heads (λ h. pos (load m (group_of heads h))) head) (λ head h. split head h)
-          ∙ total_below-add (length heads) (at_heads heads (λ head. pos (loss_of m (group_column heads kinds head)))) (at_heads heads (λ head. pos (load m (group_of heads head)))) in
+      total_below-ext (length heads) (at_heads heads (λ head. pos (size_of m (kind_at kinds head)))) (λ head. at_heads heads (λ h. pos (loss_of m (group_column heads kinds h))) head +ℤ at_heads heads (λ h. pos (load m (group_of heads h))) head) (λ head h. split head h)
+      ∙ total_below-add (length heads) (at_heads heads (λ head. pos (loss_of m (group_column heads kinds head)))) (at_heads heads (λ head. pos (load m (group_of heads head)))) in
       let enough : sum_by (λ (order : Order). order.weight) m.orders ≤ sum_by (size_of m) used = weights_within_sizes m plan (plan_legal fits) in
       omega (arith, ints, sizes, parts, all_weights, enough)
     where

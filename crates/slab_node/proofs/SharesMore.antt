@@ -40,14 +40,14 @@ pub pair_more : (columns : List Column) (cover : Parts) (times : List ℤ) (orde
     → ((j : ℕ) → j < n → get_or next j 0 ≡ get_or shares j 0 + cond (has c.orders j) amount 0) → PairShares columns cover times order n p shares → PairShares columns cover times order n (p + 1) next
 pair_more columns cover times order n p amount d c shares next h l column amount_is it added before j k =
     let cell : cond (first_test (Pair order j) (column_at columns (get_or cover p d).0) && second_test (Pair order j) (column_at columns (get_or cover p d).0)) (unsigned_abs (get_or times p (pos 0))) 0 ≡ cond (has c.orders j) amount 0 =
-        ap (λ (x : Column). cond (has x.orders order && has x.orders j) (unsigned_abs (get_or times p (pos 0))) 0) column ∙ ap (λ (b : Bool). cond (b && has c.orders j) (unsigned_abs (get_or times p (pos 0))) 0) it ∙ ap (λ (a : ℕ). cond (has c.orders j) a 0) (sym amount_is) in
+    ap (λ (x : Column). cond (has x.orders order && has x.orders j) (unsigned_abs (get_or times p (pos 0))) 0) column ∙ ap (λ (b : Bool). cond (b && has c.orders j) (unsigned_abs (get_or times p (pos 0))) 0) it ∙ ap (λ (a : ℕ). cond (has c.orders j) a 0) (sym amount_is) in
     omega (arith, added j k, before j k, share_more columns cover times p d (Pair order j) h l, cell)
 
 pub pair_same : (columns : List Column) (cover : Parts) (times : List ℤ) (order n p : ℕ) (d : ColId × Fraction) (c : Column) (shares : List ℕ) → p < length cover → p < length times → column_at columns (get_or cover p d).0 ≡ c → has c.orders order ≡ false
     → PairShares columns cover times order n p shares → PairShares columns cover times order n (p + 1) shares
 pair_same columns cover times order n p d c shares h l column it before j k =
     let cell : cond (first_test (Pair order j) (column_at columns (get_or cover p d).0) && second_test (Pair order j) (column_at columns (get_or cover p d).0)) (unsigned_abs (get_or times p (pos 0))) 0 ≡ 0 =
-        ap (λ (x : Column). cond (has x.orders order && has x.orders j) (unsigned_abs (get_or times p (pos 0))) 0) column ∙ ap (λ (b : Bool). cond (b && has c.orders j) (unsigned_abs (get_or times p (pos 0))) 0) it in
+    ap (λ (x : Column). cond (has x.orders order && has x.orders j) (unsigned_abs (get_or times p (pos 0))) 0) column ∙ ap (λ (b : Bool). cond (b && has c.orders j) (unsigned_abs (get_or times p (pos 0))) 0) it in
     omega (arith, before j k, share_more columns cover times p d (Pair order j) h l, cell)
 
 -- what was lent

@@ -9,3 +9,5 @@ pub mod Stated
 pub mod Misfits
 pub mod Settlements
 pub mod Shares
+pub mod Taken
+pub mod Choices

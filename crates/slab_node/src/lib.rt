@@ -2,8 +2,10 @@
 //! Read `turned`, which has the answers, then `turning`.
 #![tactic(auto)]
 
+mod choose;
 mod groups;
 mod kinds;
+mod multiples;
 mod plain;
 mod plans;
 mod settle;
@@ -11,6 +13,7 @@ mod settlement;
 mod stated;
 mod turned;
 mod turning;
+mod whole_plan;
 mod wholes;
 
 pub use slab_relax::{Cover, Tally};

@@ -75,7 +75,11 @@ pub(crate) fn losses_of(
 }
 
 // 1 for each group on a new slab.
-pub(crate) fn counts_of(alloc: Global, heads: &[u16], kinds: &[Kind]) -> Result<Vec<i64>, AllocError>
+pub(crate) fn counts_of(
+    alloc: Global,
+    heads: &[u16],
+    kinds: &[Kind],
+) -> Result<Vec<i64>, AllocError>
     requires { length kinds.now ≡ length heads.now }
     ensures at { IfOk result (λ pi. AreAtHeads heads.now (group_count kinds.now) pi.items) }
     ensures range { IfOk result (λ pi. All IsPrice pi.items) }

@@ -1,19 +1,61 @@
 ghost use Rattle.std.specs.Prelude.{◌≡◌, ◌≤◌, IfOk, length};
 ghost use Rattle.mill_model.specs.Assignments.{AreSettled};
+ghost use Rattle.mill_model.specs.Decisions.{AreAsks};
 ghost use Rattle.mill_model.specs.Plain.{IsPlainlyRefuted};
 ghost use Rattle.mill_model.specs.Prices.{Refutes};
-ghost use Rattle.slab_decide.specs.Decided.{IsFirstOpen};
+ghost use Rattle.slab_decide.specs.Decided.{AreConsistent, IsFirstOpen};
 ghost use Rattle.slab_columns.specs.Pool.{HasGrown};
 ghost use Rattle.slab_relax.specs.PoolCovers.{IsPoolCover, HasLeastLoss};
 ghost use Rattle.slab_relax.specs.Tallies.{AreNoLess, HasCause};
 ghost use Rattle.slab_node.specs.Turns.{IsNode, IsInBox, IsOpenAsk, IfRefuted, IfInBox, IfSpread, IfBare, IfAsks, IsRefuted, IsClosed, IsTurn};
 
+use crate::choose::{Choice, choose};
+use crate::plain::plain_prices;
+use crate::settle::settle;
 use crate::{Tally, Turned};
 use loss_table::LossTable;
-use mill_model::{Limits, Mill};
+use mill_model::{Ask, Limits, Mill};
 use slab_columns::Pool;
 use slab_decide::Decisions;
+use slab_relax::{Node, Relaxed, relax};
 use std::alloc::{AllocError, Global};
+
+// A pool of more columns is emptied before a turn.
+const MOST_COLUMNS: usize = 4096;
+
+// The turn of a node with a question that doesn't follow.
+fn turn_open(
+    alloc: Global,
+    node: &Node<'_>,
+    undecided: Ask,
+    pool: &mut Pool,
+    tally: &mut Tally,
+) -> Result<Turned, AllocError>
+    requires mill { pool.old.mill ≡ node.now.mill.now }
+    requires question { IsOpenAsk node.now.mill.now node.now.decisions.now.list undecided }
+    requires asks { AreAsks node.now.mill.now node.now.decisions.now.list }
+    requires consistent { AreConsistent node.now.decisions.now.list }
+    ensures refuted { IfOk result (λ t. IfRefuted t (Refutes node.now.mill.now node.now.limits node.now.decisions.now.list)) }
+    ensures in_box { IfOk result (λ t. IfInBox t (IsInBox node.now.mill.now node.now.limits node.now.decisions.now.list)) }
+    ensures cover { IfOk result (λ t. IfSpread t (IsPoolCover node.now.mill.now node.now.limits node.now.decisions.now.list pool.new.columns)) }
+    ensures cause { IfOk result (λ t. IfBare t (λ _. HasCause tally.old tally.new)) }
+    ensures first { IfOk result (λ t. IfBare t (λ ask. ask ≡ undecided)) }
+    ensures ask { IfOk result (λ t. IfAsks t (IsOpenAsk node.now.mill.now node.now.decisions.now.list)) }
+    ensures least { (HasCause tally.old tally.new → ⊥)
+        → IfOk result (λ t. IfSpread t (HasLeastLoss node.now.mill.now node.now.limits node.now.decisions.now.list pool.new.columns)) }
+    ensures counters { AreNoLess tally.old tally.new }
+    ensures grown { HasGrown pool.old pool.new }
+{
+    let cover = match relax(alloc, node, pool, tally)? {
+        Relaxed::Refuted(prices) => return Ok(Turned::Refuted(prices)),
+        Relaxed::Counted => return Ok(Turned::Bare(undecided)),
+        Relaxed::Covered(cover) => cover,
+    };
+    match choose(alloc, node, pool, &cover, undecided, &mut tally.wides)? {
+        Choice::Split(ask) => Ok(Turned::Spread(cover, ask)),
+        Choice::Whole(plan) => Ok(Turned::InBox(plan)),
+    }
+}
 
 /// One node's turn. It answers prices that refute the limits under the decisions, a plan within them, or a fractional cover,
 /// which shows that no prices refute them, with an ask to split on. Where a counter of the tally rose or stands at its last
@@ -56,5 +98,20 @@ pub fn turn(
     ensures mill { pool.new.mill ≡ mill.now }
     ensures grown { length pool.old.columns ≤ 4096 → HasGrown pool.old pool.new }
 {
-    Err(AllocError)
+    let node = Node {
+        mill,
+        table,
+        decisions,
+        limits,
+    };
+    if let Some(prices) = plain_prices(alloc, mill, limits)? {
+        return Ok(Turned::Refuted(prices));
+    }
+    let Some(first) = decisions.first_open() else {
+        return settle(alloc, &node);
+    };
+    if pool.len() > MOST_COLUMNS {
+        pool.restart();
+    }
+    turn_open(alloc, &node, first, pool, tally)
 }

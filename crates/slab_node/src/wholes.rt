@@ -4,22 +4,25 @@ ghost use Rattle.mill_model.specs.declared.ask.Ask.{Ask};
 ghost use Rattle.mill_model.specs.Columns.{Rises, has};
 ghost use Rattle.mill_model.specs.Decisions.{IsAsk};
 ghost use Rattle.slab_relax.specs.PoolCovers.{parts_of};
-ghost use Rattle.slab_node.specs.Shares.{AreTimes, share, IsFractional};
+ghost use Rattle.slab_node.specs.Shares.{AreTimes, CoversOrders, share, IsFractional, IsWhole};
 
-use mill_model::{Ask, Kind, Mill};
-use std::alloc::{AllocError, Global};
+use mill_model::{Ask, Kind};
 use slab_columns::{ColId, Pool};
 use slab_frac::Frac;
+use slab_relax::Node;
+use std::alloc::{AllocError, Global};
 
-/// Columns of a pool with whole multipliers.
+/// Columns of a pool with whole multipliers, which sum to `whole` at each order.
 #[derive(Clone, Copy)]
 pub(crate) struct Wholes<'a> {
-    pub mill: &'a Mill,
+    pub node: Node<'a>,
     pub pool: &'a Pool,
     pub cover: &'a [(ColId, Frac)],
     pub times: &'a [i64],
-    ghost belongs: { pool.now.mill ≡ mill.now },
-    ghost numbers: { AreTimes pool.now.columns cover.now times.now },
+    pub whole: u64,
+    pub ghost belongs: { pool.now.mill ≡ node.mill.now },
+    pub ghost numbers: { AreTimes pool.now.columns cover.now times.now },
+    pub ghost covers: { CoversOrders node.mill.now whole (parts_of pool.now.columns cover.now times.now) },
 }
 
 // Adds so much at each of some rising places.
@@ -49,7 +52,7 @@ fn first_partial(sums: &[u128], from: usize, whole: u128) -> Option<usize>
 impl Wholes<'_> {
     // For each order, how much of the cover has it together with this one.
     fn pair_shares(&self, order: u16, shares: &mut [u128])
-        requires { length shares.old ≡ length self.now.mill.now.orders }
+        requires { length shares.old ≡ length self.now.node.mill.now.orders }
         ensures size { length shares.new ≡ length shares.old }
         ensures shares { (j : ℕ) → j < length shares.old → slice_index shares.new j ≡ share (parts_of self.now.pool.now.columns self.now.cover.now self.now.times.now) (Ask.Pair order j) }
     {
@@ -57,14 +60,18 @@ impl Wholes<'_> {
         for (p, part) in self.cover.iter().enumerate() {
             let column = self.pool.column(part.0);
             if column.orders.contains(&order) {
-                add_at(shares, column.orders, u128::from(self.times[p].unsigned_abs()));
+                add_at(
+                    shares,
+                    column.orders,
+                    u128::from(self.times[p].unsigned_abs()),
+                );
             }
         }
     }
 
     // For each surplus slab, how much of the cover has this order on it.
     fn put_shares(&self, order: u16, shares: &mut [u128])
-        requires { length shares.old ≡ length self.now.mill.now.yard }
+        requires { length shares.old ≡ length self.now.node.mill.now.yard }
         ensures size { length shares.new ≡ length shares.old }
         ensures shares { (s : ℕ) → s < length shares.old → slice_index shares.new s ≡ share (parts_of self.now.pool.now.columns self.now.cover.now self.now.times.now) (Ask.Put order s) }
     {
@@ -82,15 +89,15 @@ impl Wholes<'_> {
     }
 
     // The first pair that the cover answers in part.
-    fn partial_pair(&self, alloc: Global, whole: u64) -> Result<Option<Ask>, AllocError>
-        ensures some { IfOk result (λ found. IfSome found (λ ask. IsAsk self.now.mill.now ask × IsFractional whole (parts_of self.now.pool.now.columns self.now.cover.now self.now.times.now) ask)) }
-        ensures none { IfOk result (λ found. IfNone found ((i j : ℕ) → i < j → j < length self.now.mill.now.orders → IsFractional whole (parts_of self.now.pool.now.columns self.now.cover.now self.now.times.now) (Ask.Pair i j) → ⊥)) }
+    fn partial_pair(&self, alloc: Global) -> Result<Option<Ask>, AllocError>
+        ensures some { IfOk result (λ found. IfSome found (λ ask. IsAsk self.now.node.mill.now ask × IsFractional self.now.whole (parts_of self.now.pool.now.columns self.now.cover.now self.now.times.now) ask)) }
+        ensures none { IfOk result (λ found. IfNone found ((i j : ℕ) → i < j → j < length self.now.node.mill.now.orders → IsFractional self.now.whole (parts_of self.now.pool.now.columns self.now.cover.now self.now.times.now) (Ask.Pair i j) → ⊥)) }
     {
-        let count = self.mill.orders().len();
+        let count = self.node.mill.orders().len();
         let mut shares = vec![in alloc; 0; count]?;
         for i in 0..count {
             self.pair_shares(i as u16, &mut shares);
-            if let Some(j) = first_partial(&shares, i + 1, u128::from(whole)) {
+            if let Some(j) = first_partial(&shares, i + 1, u128::from(self.whole)) {
                 return Ok(Some(Ask::Pair(i as u16, j as u16)));
             }
         }
@@ -98,18 +105,29 @@ impl Wholes<'_> {
     }
 
     // The first put that it answers in part.
-    fn partial_put(&self, alloc: Global, whole: u64) -> Result<Option<Ask>, AllocError>
-        ensures some { IfOk result (λ found. IfSome found (λ ask. IsAsk self.now.mill.now ask × IsFractional whole (parts_of self.now.pool.now.columns self.now.cover.now self.now.times.now) ask)) }
-        ensures none { IfOk result (λ found. IfNone found ((o s : ℕ) → o < length self.now.mill.now.orders → s < length self.now.mill.now.yard → IsFractional whole (parts_of self.now.pool.now.columns self.now.cover.now self.now.times.now) (Ask.Put o s) → ⊥)) }
+    fn partial_put(&self, alloc: Global) -> Result<Option<Ask>, AllocError>
+        ensures some { IfOk result (λ found. IfSome found (λ ask. IsAsk self.now.node.mill.now ask × IsFractional self.now.whole (parts_of self.now.pool.now.columns self.now.cover.now self.now.times.now) ask)) }
+        ensures none { IfOk result (λ found. IfNone found ((o s : ℕ) → o < length self.now.node.mill.now.orders → s < length self.now.node.mill.now.yard → IsFractional self.now.whole (parts_of self.now.pool.now.columns self.now.cover.now self.now.times.now) (Ask.Put o s) → ⊥)) }
     {
-        let count = self.mill.yard().len();
+        let count = self.node.mill.yard().len();
         let mut shares = vec![in alloc; 0; count]?;
-        for order in 0..self.mill.orders().len() {
+        for order in 0..self.node.mill.orders().len() {
             self.put_shares(order as u16, &mut shares);
-            if let Some(slab) = first_partial(&shares, 0, u128::from(whole)) {
+            if let Some(slab) = first_partial(&shares, 0, u128::from(self.whole)) {
                 return Ok(Some(Ask::Put(order as u16, slab as u16)));
             }
         }
         Ok(None)
+    }
+
+    // The first question that the cover answers in part, if any: pairs come before puts.
+    pub(crate) fn partial_ask(&self, alloc: Global) -> Result<Option<Ask>, AllocError>
+        ensures some { IfOk result (λ found. IfSome found (λ ask. IsAsk self.now.node.mill.now ask × IsFractional self.now.whole (parts_of self.now.pool.now.columns self.now.cover.now self.now.times.now) ask)) }
+        ensures none { IfOk result (λ found. IfNone found (IsWhole self.now.node.mill.now self.now.whole (parts_of self.now.pool.now.columns self.now.cover.now self.now.times.now))) }
+    {
+        match self.partial_pair(alloc)? {
+            Some(ask) => Ok(Some(ask)),
+            None => self.partial_put(alloc),
+        }
     }
 }

@@ -12,8 +12,8 @@ losses_of-requires-clause-fits c = rw (c.deref.ensures.value, c.deref-2.ensures.
 pub returns : goal.returns
 returns c =
     let at : AreAtHeads c.args.settlement.now.heads.items (group_loss c.args.node.now.mill.now c.args.settlement.now.heads.items c.args.settlement.now.kinds.items) c.in_ok-pi.pi.items =
-        subst (λ (l : List ℕ). AreAtHeads l (group_loss c.args.node.now.mill.now l c.args.settlement.now.kinds.items) c.in_ok-pi.pi.items) c.deref.ensures.value
-        (subst (λ (l : List Kind). AreAtHeads c.deref.result.now (group_loss c.args.node.now.mill.now c.deref.result.now l) c.in_ok-pi.pi.items) c.deref-2.ensures.value c.in_ok-pi.ensures.at) in
+    subst (λ (l : List ℕ). AreAtHeads l (group_loss c.args.node.now.mill.now l c.args.settlement.now.kinds.items) c.in_ok-pi.pi.items) c.deref.ensures.value
+    (subst (λ (l : List Kind). AreAtHeads c.deref.result.now (group_loss c.args.node.now.mill.now c.deref.result.now l) c.in_ok-pi.pi.items) c.deref-2.ensures.value c.in_ok-pi.ensures.at) in
     let refutes = loss_refutes c.args.node.now c.args.settlement.now c.requires.settlement c.requires.legal c.in_ok-pi.pi.items c.requires.above at c.in_ok-pi.ensures.range in
     IfOk-weaker c.prices_by.result (λ p. p ≡ free_prices c.args.node.now.mill.now (pos 1) (pos 0) c.in_ok-pi.pi.items) (Refutes c.args.node.now.mill.now c.args.node.now.limits c.args.node.now.decisions.now.list)
     (λ p is. subst (Refutes c.args.node.now.mill.now c.args.node.now.limits c.args.node.now.decisions.now.list) (sym is) refutes) c.prices_by.ensures

@@ -34,8 +34,8 @@ returns c =
     let it = rule_slab c.args.node.now c.args.settlement.now c.requires.settlement c.args.rule c.in-Some.slab c.requires.broken (sym c.slab_number.ensures ∙ c.in-Some.is) in
     let there : get_or c.args.settlement.now.plan.place c.in-Some-first_order.order 0 ≡ c.in-Some.slab = ap (λ (l : List ℕ). get_or l c.in-Some-first_order.order 0) (sym c.place.ensures) ∙ c.in-Some-first_order.ensures.some.1 in
     let at : AreAtHeads c.args.settlement.now.heads.items (only (head_of c.args.settlement.now.heads.items c.in-Some-first_order.order)) c.in_ok-pi.pi.items =
-        subst (λ (l : List ℕ). AreAtHeads l (only (head_of c.args.settlement.now.heads.items c.in-Some-first_order.order)) c.in_ok-pi.pi.items) c.deref.ensures.value
-        (subst (λ (h : ℕ). AreAtHeads c.deref.result.now (only h) c.in_ok-pi.pi.items) head c.in_ok-pi.ensures.at) in
+    subst (λ (l : List ℕ). AreAtHeads l (only (head_of c.args.settlement.now.heads.items c.in-Some-first_order.order)) c.in_ok-pi.pi.items) c.deref.ensures.value
+    (subst (λ (h : ℕ). AreAtHeads c.deref.result.now (only h) c.in_ok-pi.pi.items) head c.in_ok-pi.ensures.at) in
     let refutes = misfit_refutes c.args.node.now c.args.settlement.now c.requires.settlement c.in-Some.slab c.in-Some-first_order.order c.in_ok-pi.pi.items it.0 it.1 inside there at c.in_ok-pi.ensures.range in
     IfOk-weaker c.prices_by.result (λ p. p ≡ free_prices c.args.node.now.mill.now (pos 0) (pos 0) c.in_ok-pi.pi.items) (Refutes c.args.node.now.mill.now c.args.node.now.limits c.args.node.now.decisions.now.list)
     (λ p is. subst (Refutes c.args.node.now.mill.now c.args.node.now.limits c.args.node.now.decisions.now.list) (sym is) refutes) c.prices_by.ensures

@@ -17,10 +17,10 @@ loop-order-preserved c =
       | then-head-order+in_ok-push w ↦
           let own : head_of c.args.heads.now c.loop-order.order ≡ c.loop-order.order = w.if-head-order.true in
           let weight : w.index.result.now ≡ load c.args.mill.now (group_of c.args.heads.now c.loop-order.order) =
-              w.index.ensures ∙ get_or_default_zero c.in_ok-weights.weights.items c.loop-order.order w.index.result.now (omega (arith, c.loop-order-test.true, c.in_ok-weights.ensures.size)) ∙ c.in_ok-weights.ensures.weight c.loop-order.order c.loop-order-test.true in
+          w.index.ensures ∙ get_or_default_zero c.in_ok-weights.weights.items c.loop-order.order w.index.result.now (omega (arith, c.loop-order-test.true, c.in_ok-weights.ensures.size)) ∙ c.in_ok-weights.ensures.weight c.loop-order.order c.loop-order-test.true in
           let size : w.size_of-size.result ≡ size_of c.args.mill.now (kind_at c.args.kinds.now c.loop-order.order) = search rules in
           let price : to_z w64 (of_z w64 (to_z w64 (of_z w64 w.from.result) -ℤ to_z w64 (of_z w64 w.from-then-head-order.result))) ≡ (pos w.size_of-size.result -ℤ pos w.index.result.now) =
-              omega (arith, ints, w.from.ensures, w.from-then-head-order.ensures, w.size_of-size.ensures.small, weight, c.in_ok-weights.ensures.weight c.loop-order.order c.loop-order-test.true, c.in_ok-weights.ensures.light c.loop-order.order c.loop-order-test.true) in
+          omega (arith, ints, w.from.ensures, w.from-then-head-order.ensures, w.size_of-size.ensures.small, weight, c.in_ok-weights.ensures.weight c.loop-order.order c.loop-order-test.true, c.in_ok-weights.ensures.light c.loop-order.order c.loop-order-test.true) in
           at_more c.args.heads.now (group_loss c.args.mill.now c.args.heads.now c.args.kinds.now) c.loop-order.order c.loop-order.pi.items _ c.if-head-order.pi.items (ap (λ v. v.items) w.pi-is ∙ w.in_ok-push.ensures.items)
           (at_loss c.args.mill.now c.args.heads.now c.args.kinds.now c.loop-order.order w.size_of-size.result w.index.result.now _ own size w.size_of-size.ensures.small weight (c.requires.fits c.loop-order.order (omega (arith, c.loop-order-test.true, c.requires.heads)) own) price)
           c.loop-order.invariant

@@ -19,7 +19,7 @@ pub loop-p-preserved-in-New : goal.loop-p-preserved-in-New
 loop-p-preserved-in-New c =
     let inside : c.loop-p.p < length c.args.self.now.times.now = omega (arith, c.loop-p-test.true, c.args.self.now.numbers.size) in
     let column : column_at c.args.self.now.pool.now.columns (get_or c.args.self.now.cover.now c.loop-p.p c.part-item.result).0 ≡ lent_column c.column-column.result =
-        ap (λ (part : ColId × Fraction). column_at c.args.self.now.pool.now.columns part.0) (sym c.part-item.is) ∙ column_is c.args.self.now.pool.now.columns c.part-item.result.0 (lent_column c.column-column.result) c.column-column.ensures.value in
+    ap (λ (part : ColId × Fraction). column_at c.args.self.now.pool.now.columns part.0) (sym c.part-item.is) ∙ column_is c.args.self.now.pool.now.columns c.part-item.result.0 (lent_column c.column-column.result) c.column-column.ensures.value in
     record {
       size = c.loop-p.invariant.size;
       shares = put_same c.args.self.now.pool.now.columns c.args.self.now.cover.now c.args.self.now.times.now c.args.order (length c.args.shares.now) c.loop-p.p c.part-item.result (lent_column c.column-column.result) c.loop-p.shares c.loop-p-test.true inside column
@@ -31,9 +31,9 @@ pub loop-p-preserved : goal.loop-p-preserved
 loop-p-preserved c =
     let inside : c.loop-p.p < length c.args.self.now.times.now = omega (arith, c.loop-p-test.true, c.args.self.now.numbers.size) in
     let column : column_at c.args.self.now.pool.now.columns (get_or c.args.self.now.cover.now c.loop-p.p c.part-item.result).0 ≡ lent_column c.column-column.result =
-        ap (λ (part : ColId × Fraction). column_at c.args.self.now.pool.now.columns part.0) (sym c.part-item.is) ∙ column_is c.args.self.now.pool.now.columns c.part-item.result.0 (lent_column c.column-column.result) c.column-column.ensures.value in
+    ap (λ (part : ColId × Fraction). column_at c.args.self.now.pool.now.columns part.0) (sym c.part-item.is) ∙ column_is c.args.self.now.pool.now.columns c.part-item.result.0 (lent_column c.column-column.result) c.column-column.ensures.value in
     let contains : c.contains.result ≡ has c.column-column.result.orders.now c.args.order = search rules in
-    let stock : c.in-Old.slab < length c.args.shares.now = omega (arith, c.requires, subst (IsInStock c.args.self.now.mill.now) c.in-Old.is (subst (λ (m : Mill). IsInStock m c.column-column.result.kind) c.args.self.now.belongs c.column-column.ensures.legal.fits.kind)) in
+    let stock : c.in-Old.slab < length c.args.shares.now = omega (arith, c.requires, subst (IsInStock c.args.self.now.node.mill.now) c.in-Old.is (subst (λ (m : Mill). IsInStock m c.column-column.result.kind) c.args.self.now.belongs c.column-column.ensures.legal.fits.kind)) in
     elim c.if-contains.branch [
       | then-contains w ↦
           let amount : w.from.result ≡ unsigned_abs (get_or c.args.self.now.times.now c.loop-p.p (pos 0)) = search rules in
@@ -44,9 +44,9 @@ loop-p-preserved c =
             small = put_most c.loop-p.shares _ (length c.args.shares.now) c.loop-p.p c.in-Old.slab w.from.result (get_or c.loop-p.shares c.in-Old.slab 0 + w.from.result) (2 ^ 62) c.loop-p.invariant.size stock refl most refl c.loop-p.invariant.small;
           })
       | else-contains w ↦ rw w.shares-is (record {
-          size = c.loop-p.invariant.size;
-          shares = put_same c.args.self.now.pool.now.columns c.args.self.now.cover.now c.args.self.now.times.now c.args.order (length c.args.shares.now) c.loop-p.p c.part-item.result (lent_column c.column-column.result) c.loop-p.shares c.loop-p-test.true inside column
-              (λ s. ap (λ (b : Bool). b && is_old s c.column-column.result.kind) (sym contains ∙ w.if-contains.false)) c.loop-p.invariant.shares;
-          small = λ j h. omega (arith, c.loop-p.invariant.small j h);
-        })
+        size = c.loop-p.invariant.size;
+        shares = put_same c.args.self.now.pool.now.columns c.args.self.now.cover.now c.args.self.now.times.now c.args.order (length c.args.shares.now) c.loop-p.p c.part-item.result (lent_column c.column-column.result) c.loop-p.shares c.loop-p-test.true inside column
+            (λ s. ap (λ (b : Bool). b && is_old s c.column-column.result.kind) (sym contains ∙ w.if-contains.false)) c.loop-p.invariant.shares;
+        small = λ j h. omega (arith, c.loop-p.invariant.small j h);
+      })
     ]
