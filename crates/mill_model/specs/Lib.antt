@@ -19,7 +19,4 @@ pub mod ColourSet
 pub mod BarTable
 pub mod Starts
 pub mod Laws
-pub mod Groups
 pub mod LeastSizes
-pub mod Gains
-pub mod Groupings

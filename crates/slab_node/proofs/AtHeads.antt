@@ -9,7 +9,7 @@ use Rattle.std.proofs.lemmas.Int.{ints}
 use Rattle.std.proofs.lemmas.Bool.{eq-eqb, ne_eqb}
 use Rattle.std.proofs.lemmas.List.Elements.{All-from_get_or}
 use Rattle.std.proofs.Math.ListN.{length-append}
-use Rattle.mill_model.specs.Groups.{head_of}
+use Rattle.pricing_laws.specs.Groups.{head_of}
 use Rattle.mill_model.specs.Prices.{IsPrice}
 use Rattle.slab_node.specs.Stated.{at_heads, AreAtHeads, only, group_loss}
 use Rattle.slab_node.proofs.Pushing.{each_push}

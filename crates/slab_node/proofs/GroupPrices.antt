@@ -1,5 +1,5 @@
 -- Prices on groups refute where no column that agrees costs less than its group's price, and the groups are worth more than the limits allow.
-use Rattle.std.proofs.Common.{◌≡◌, ℕ, ◌<◌, ◌≤◌, ℤ, pos, ◌+ℤ◌, ◌*ℤ◌, ◌≤ℤ◌, ◌<ℤ◌, Bool, true, false, cond, eqb, List, [], ◌∷◌, length, get_or, replicate, All, refl, sym, ap, ◌∙◌, inl, inr, arith, Option, Some, None, IfNone}
+use Rattle.std.proofs.Common.{◌≡◌, ℕ, ◌+◌, ◌<◌, ◌≤◌, ℤ, pos, ◌+ℤ◌, ◌*ℤ◌, ◌≤ℤ◌, ◌<ℤ◌, Bool, true, false, cond, eqb, List, [], ◌∷◌, length, get_or, replicate, All, refl, sym, ap, ◌∙◌, inl, inr, arith, Option, Some, None, IfNone}
 use Rattle.std.proofs.lemmas.Int.{ints}
 use Rattle.std.proofs.lemmas.Bool.{or_left, eq-eqb, ne_eqb, cases_eq}
 use Rattle.mill_model.specs.declared.limits.Limits.{Limits}
@@ -9,14 +9,19 @@ use Rattle.mill_model.specs.SignedSums.{total_by, total_below}
 use Rattle.mill_model.specs.Prices.{IsPrice, price_at, charge, Refutes}
 use Rattle.mill_model.specs.Limits.{number_of}
 use Rattle.mill_model.specs.Decisions.{Decision, column_agrees}
-use Rattle.mill_model.specs.Groups.{head_of}
+use Rattle.pricing_laws.specs.Groups.{head_of}
 use Rattle.mill_model.proofs.Signed.{total_by_at, total_below-ext}
 use Rattle.mill_model.proofs.Duality.{column_total, one_term}
-use Rattle.mill_model.proofs.Groups.{members_rise, total_rising}
+use Rattle.pricing_laws.proofs.Groups.{members_rise}
 use Rattle.mill_model.proofs.PlainPrices.{zeros_are_prices, length-zeros, zeros_sign, zero_total}
 use Rattle.slab_node.specs.Grouped.{IsOfGroup, group_of}
 use Rattle.slab_node.specs.Stated.{at_heads, AreAtHeads}
 use Rattle.slab_node.proofs.PlanOfGroups.{has_group}
+
+-- numbers alike below a bound sum alike over rising numbers
+total_rising : (f g : ℕ → ℤ) (low n : ℕ) (xs : List ℕ) → Rises low n xs → ((x : ℕ) → x < n → f x ≡ g x) → total_by f xs ≡ total_by g xs
+total_rising f g low n [] r e = refl
+total_rising f g low n (x ∷ xs) r e = omega (arith, ints, e x r.1, total_rising f g (x + 1) n xs r.2 e)
 
 -- the orders of a group are worth the group's price
 pub group_worth : (heads : List ℕ) (value : ℕ → ℤ) (orders : List ℕ) (head : ℕ) → orders ≡ group_of heads head → head < length heads → head_of heads head ≡ head → total_by (at_heads heads value) orders ≡ value head

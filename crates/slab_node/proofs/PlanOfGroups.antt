@@ -11,11 +11,11 @@ use Rattle.mill_model.specs.Mill.{Mill}
 use Rattle.mill_model.specs.Columns.{Column, Fits, has, is_old, load, loss_of, size_of, order_at}
 use Rattle.mill_model.specs.Plans.{Plan, places_of, slab, is_new, IsLegal, IsInOrder, sums_of}
 use Rattle.mill_model.specs.SignedSums.{total_below}
-use Rattle.mill_model.specs.Groups.{head_of}
+use Rattle.pricing_laws.specs.Groups.{head_of}
 use Rattle.mill_model.proofs.Signed.{total_by_at, total_by-pos, total_below-ext, total_below-add, total_below-zero}
 use Rattle.mill_model.proofs.Duality.{column_total, one_term}
 use Rattle.mill_model.proofs.Slabs.{places_rise, has_places}
-use Rattle.mill_model.proofs.Groups.{members_rise, has-members}
+use Rattle.pricing_laws.proofs.Groups.{members_rise, has-members}
 use Rattle.mill_model.proofs.Rising.{same_members}
 use Rattle.mill_model.proofs.Judging.{once_from_pairs}
 use Rattle.mill_model.proofs.PlanCover.{weights_within_sizes}

@@ -11,10 +11,10 @@ use Rattle.mill_model.specs.Columns.{Column, IsLegalColumn, IsInStock, Rises, ha
 use Rattle.mill_model.specs.Decisions.{Decision, IsAsk, AreAsks, answer_of, PlanAgrees, column_agrees}
 use Rattle.mill_model.specs.Assignments.{Group, same_group, Assignment, answer, Agrees, AreSettled}
 use Rattle.mill_model.specs.Assignments.Group.{On}
-use Rattle.mill_model.specs.Groups.{head_of}
+use Rattle.pricing_laws.specs.Groups.{head_of}
 use Rattle.mill_model.proofs.Agreement.{settled_orders, settled_kind}
 use Rattle.mill_model.proofs.Closing.{same_group-true, same_group_from}
-use Rattle.mill_model.proofs.Groups.{members_rise}
+use Rattle.pricing_laws.proofs.Groups.{members_rise}
 use Rattle.mill_model.proofs.Rising.{same_members}
 use Rattle.mill_model.proofs.Settled.{plan_agrees_like}
 use Rattle.slab_node.specs.Grouped.{IsGrouping, AreGrouped, AreKinds, IsKindFor, IsOfGroup, slab_of, slab_at, kind_at, group_of}

@@ -16,7 +16,7 @@ use Rattle.mill_model.specs.Prices.{IsPrice, charge, Refutes}
 use Rattle.mill_model.specs.Limits.{number_of, IsWithin}
 use Rattle.mill_model.specs.Decisions.{Decision, column_agrees}
 use Rattle.mill_model.specs.Assignments.{Assignment}
-use Rattle.mill_model.specs.Groups.{head_of}
+use Rattle.pricing_laws.specs.Groups.{head_of}
 use Rattle.mill_model.proofs.Signed.{total_below-ext}
 use Rattle.mill_model.proofs.Duality.{one_term}
 use Rattle.mill_model.proofs.PlainPrices.{zero_price}

@@ -13,9 +13,9 @@ use Rattle.mill_model.specs.SignedSums.{total_by, total_below}
 use Rattle.mill_model.specs.Limits.{AtMost, IsWithin}
 use Rattle.mill_model.specs.Decisions.{Decision, AreAsks, PlanAgrees, column_agrees}
 use Rattle.mill_model.specs.Covers.{Part, times, IsCover}
-use Rattle.mill_model.specs.Groups.{head_of}
+use Rattle.pricing_laws.specs.Groups.{head_of}
 use Rattle.mill_model.proofs.Rising.{same_members}
-use Rattle.mill_model.proofs.Groups.{members_rise}
+use Rattle.pricing_laws.proofs.Groups.{members_rise}
 use Rattle.mill_model.proofs.Slabs.{plan_agrees}
 use Rattle.slab_relax.proofs.Covering.{sum_tests}
 use Rattle.slab_node.specs.Turns.{IsInBox}

@@ -3,7 +3,7 @@ use Rattle.std.specs.Prelude.{◌≡◌, ℕ, suc, pos, ◌<◌, cond, eqb, List
 use Rattle.std.specs.List.{position_or_len, sum_by}
 use Rattle.mill_model.specs.declared.kind.Kind.{Kind}
 use Rattle.mill_model.specs.SignedSums.{total_below}
-use Rattle.mill_model.specs.Groups.{head_of}
+use Rattle.pricing_laws.specs.Groups.{head_of}
 use Rattle.slab_node.specs.Grouped.{kind_at}
 
 -- The first so many orders lie together exactly by their heads, on their heads' kinds, each group on a slab of its own; and the

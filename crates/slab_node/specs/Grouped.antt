@@ -4,7 +4,7 @@ use Rattle.mill_model.specs.declared.kind.Kind.{Kind}
 use Rattle.mill_model.specs.declared.kind.Kind.TheVariants.{New, Old}
 use Rattle.mill_model.specs.Mill.{Mill}
 use Rattle.mill_model.specs.Columns.{Column, load}
-use Rattle.mill_model.specs.Groups.{head_of, members}
+use Rattle.pricing_laws.specs.Groups.{head_of, members}
 use Rattle.mill_model.specs.LeastSizes.{IsLeastSize}
 
 -- each order's head is no later one, and its own

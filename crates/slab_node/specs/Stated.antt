@@ -6,7 +6,7 @@ use Rattle.mill_model.specs.Columns.{loss_of}
 use Rattle.mill_model.specs.Plans.{is_new}
 use Rattle.mill_model.specs.Prices.{Prices}
 use Rattle.slab_node.specs.Grouped.{kind_at, group_column}
-use Rattle.mill_model.specs.Groups.{head_of}
+use Rattle.pricing_laws.specs.Groups.{head_of}
 
 -- a number for each group, and 0 for each order that isn't the first of one
 abbrev pub at_heads : List ℕ → (ℕ → ℤ) → ℕ → ℤ

@@ -2,7 +2,7 @@
 ghost use Rattle.std.specs.Prelude.{◌≡◌, ◌≤◌, IfOk, length};
 ghost use Rattle.mill_model.specs.declared.kind.Kind.{Kind};
 ghost use Rattle.mill_model.specs.Columns.{IsInStock, size_of};
-ghost use Rattle.mill_model.specs.Groupings.{AreBefore, AreWeights};
+ghost use Rattle.pricing_laws.specs.Groupings.{AreBefore, AreWeights};
 ghost use Rattle.slab_node.specs.Grouped.{AreGrouped, IsNewFor, IsKindFor, AreKinds};
 
 use loss_table::LossTable;

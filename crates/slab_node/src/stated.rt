@@ -2,8 +2,8 @@
 ghost use Rattle.std.specs.Prelude.{◌≡◌, ℕ, ◌<◌, ◌≤◌, IfOk, All, length};
 ghost use Rattle.mill_model.specs.Columns.{Fits, loss_of};
 ghost use Rattle.mill_model.specs.Prices.{IsPrice};
-ghost use Rattle.mill_model.specs.Groups.{head_of};
-ghost use Rattle.mill_model.specs.Groupings.{AreBefore};
+ghost use Rattle.pricing_laws.specs.Groups.{head_of};
+ghost use Rattle.pricing_laws.specs.Groupings.{AreBefore};
 ghost use Rattle.slab_node.specs.Grouped.{group_column};
 ghost use Rattle.slab_node.specs.Stated.{AreAtHeads, only, group_loss, group_count, free_prices};
 

@@ -13,7 +13,7 @@ use Rattle.mill_model.specs.Prices.{price_at, charge}
 use Rattle.slab_frac.proofs.Ring.{dist_sub_right_int}
 use Rattle.slab_master.specs.Given.{Entry}
 use Rattle.slab_master.specs.Sums.{number_at, product_of}
-use Rattle.slab_price.specs.Excess.{excess}
+use Rattle.pricing_laws.specs.Problems.{excess}
 use Rattle.slab_relax.specs.Rows.{loss_row, count_row, order_entries, slab_entries, loss_entries, count_entries, entries_of}
 use Rattle.slab_relax.specs.Duals.{turned, price_of, prices_of}
 

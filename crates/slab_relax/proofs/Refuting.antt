@@ -15,7 +15,7 @@ use Rattle.slab_master.specs.Given.{Row}
 use Rattle.slab_master.specs.Sums.{number_at, right_product}
 use Rattle.slab_master.specs.Prices.{AtMostZero}
 use Rattle.slab_price.specs.Excess.{IsGreatest}
-use Rattle.slab_price.proofs.Excesses.{priced_from_excess}
+use Rattle.pricing_laws.proofs.Excesses.{priced_from_excess}
 use Rattle.slab_relax.specs.Rows.{loss_row, count_row, rows_of}
 use Rattle.slab_relax.specs.Duals.{turned, price_of, prices_of}
 use Rattle.slab_relax.proofs.Products.{slab_price}

@@ -14,7 +14,8 @@ use Rattle.slab_master.specs.Given.{Column as MasterColumn}
 use Rattle.slab_master.specs.Sums.{product_of}
 use Rattle.slab_master.specs.Prices.{ArePricesAt}
 use Rattle.slab_master.specs.Given.{Given}
-use Rattle.slab_price.specs.Excess.{excess, IsGreatest}
+use Rattle.pricing_laws.specs.Problems.{excess}
+use Rattle.slab_price.specs.Excess.{IsGreatest}
 use Rattle.slab_relax.specs.Rows.{rows_of, entries_of}
 use Rattle.slab_relax.specs.Masters.{allowed_of, master_by, AreFarkas}
 use Rattle.slab_relax.proofs.Allowed.{kept}

@@ -1,5 +1,5 @@
 use Rattle.std.proofs.Common.{◌≡◌, ℕ, ◌<◌, length}
-use Rattle.mill_model.specs.Groups.{head_of}
+use Rattle.pricing_laws.specs.Groups.{head_of}
 use Rattle.slab_node.specs.Settled.{IsFirst}
 use Rattle.slab_node.proofs.groups.firsts_of.Given as goal
 

@@ -1,8 +1,8 @@
 use Rattle.std.proofs.Common.{◌≡◌, ℕ, ◌<◌, ◌≤◌, List, length, get_or, subst, ap, ◌∙◌, arith}
 use Rattle.mill_model.specs.declared.order.Order.{Order}
 use Rattle.mill_model.specs.Columns.{order_at}
-use Rattle.mill_model.proofs.Groups.{AreSums}
-use Rattle.mill_model.proofs.Groupings.{light_more, weighed_more, weights_done}
+use Rattle.pricing_laws.proofs.Groups.{AreSums}
+use Rattle.pricing_laws.proofs.Groupings.{light_more, weighed_more, weights_done}
 use Rattle.slab_node.proofs.kinds.weigh.Goals as goal
 
 pub loop-order-preserved : goal.loop-order-preserved

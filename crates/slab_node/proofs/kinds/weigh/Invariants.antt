@@ -1,6 +1,6 @@
 use Rattle.std.proofs.Common.{ℕ, ◌*◌, ◌≤◌, get_or}
 use Rattle.mill_model.specs.Columns.{order_at}
-use Rattle.mill_model.proofs.Groups.{AreSums}
+use Rattle.pricing_laws.proofs.Groups.{AreSums}
 use Rattle.slab_node.proofs.kinds.weigh.Given as goal
 
 abbrev pub invariant-loop-order : goal.invariant-loop-order

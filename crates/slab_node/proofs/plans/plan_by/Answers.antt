@@ -1,7 +1,7 @@
 use Rattle.std.proofs.Common.{rules, arith, ◌≡◌, ◌<◌, ℕ, [], ◌∷◌, ◌++◌, length, get_or, ap, ◌∙◌, length-append}
 use Rattle.std.proofs.lemmas.Grind.{get_or_default_zero}
 use Rattle.mill_model.specs.declared.kind.Kind.TheVariants.{New}
-use Rattle.mill_model.specs.Groups.{head_of}
+use Rattle.pricing_laws.specs.Groups.{head_of}
 use Rattle.slab_node.proofs.Building.{built_old, built_new}
 use Rattle.slab_node.proofs.plans.plan_by.Goals as goal
 use Rattle.slab_node.proofs.plans.plan_by.Goals.{then-head-o+in_ok-push+in_ok-push-2, else-head-o+in_ok-push-3}

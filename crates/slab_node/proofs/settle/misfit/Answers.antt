@@ -2,7 +2,7 @@ use Rattle.std.proofs.Common.{◌≡◌, ◌<◌, ℕ, pos, List, length, get_or
 use Rattle.std.proofs.lemmas.Result.{IfOk-weaker}
 use Rattle.std.proofs.lemmas.Grind.{get_or_default_zero}
 use Rattle.mill_model.specs.Prices.{Refutes}
-use Rattle.mill_model.specs.Groups.{head_of}
+use Rattle.pricing_laws.specs.Groups.{head_of}
 use Rattle.slab_node.specs.Stated.{free_prices, only, AreAtHeads}
 use Rattle.slab_node.proofs.Settling.{misfit_of, misfit_refutes, rule_slab, slab_order, own_head}
 use Rattle.slab_node.proofs.settle.misfit.Goals as goal

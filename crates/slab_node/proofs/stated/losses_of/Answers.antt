@@ -4,7 +4,7 @@ use Rattle.std.specs.Int.{w64}
 use Rattle.std.proofs.lemmas.Int.{ints}
 use Rattle.std.proofs.lemmas.Grind.{get_or_default_zero}
 use Rattle.mill_model.specs.Columns.{load, size_of}
-use Rattle.mill_model.specs.Groups.{head_of}
+use Rattle.pricing_laws.specs.Groups.{head_of}
 use Rattle.slab_node.specs.Grouped.{kind_at, group_of}
 use Rattle.slab_node.specs.Stated.{group_loss}
 use Rattle.slab_node.proofs.AtHeads.{at_more, at_other, at_loss, at_range}

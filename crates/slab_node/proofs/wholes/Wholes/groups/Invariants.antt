@@ -1,5 +1,5 @@
 use Rattle.std.proofs.Common.{◌≡◌, ℕ, ◌<◌, length}
-use Rattle.mill_model.specs.Groups.{head_of}
+use Rattle.pricing_laws.specs.Groups.{head_of}
 use Rattle.slab_relax.specs.PoolCovers.{parts_of}
 use Rattle.slab_node.specs.Grouped.{slab_at}
 use Rattle.slab_node.specs.Taken.{IsTaken}

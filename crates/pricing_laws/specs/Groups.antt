@@ -25,3 +25,11 @@ members heads taken = members_from 0 heads taken
 abbrev pub heads_in : List ℕ → List ℕ → List ℕ
 heads_in heads [] = []
 heads_in heads (o ∷ orders) = cond (eqb (head_of heads o) o) (o ∷ heads_in heads orders) (heads_in heads orders)
+
+-- no column that agrees has both orders
+abbrev pub AreApart : List Decision → ℕ → ℕ → Type 0
+AreApart decisions first second = (c : Column) → column_agrees decisions c ≡ true → has c.orders first ≡ true → has c.orders second ≡ true → ⊥
+
+-- an order is apart from one of some others
+abbrev pub IsApart : List Decision → List ℕ → ℕ → Type 0
+IsApart decisions others order = (other : ℕ) × (has others other ≡ true) × AreApart decisions other order

@@ -1,13 +1,11 @@
 -- The orders of a mill in groups that move as one, with what each group weighs and gains.
 use Rattle.std.specs.Prelude.{◌≡◌, ℕ, ◌*◌, ◌^◌, ◌<◌, ◌≤◌, ℤ, pos, unsigned_abs, List, [], ◌∷◌, length, slice_index_or}
-use Rattle.std.specs.List.{sum_by}
 use Rattle.mill_model.specs.Mill.{Mill}
-use Rattle.mill_model.specs.SignedSums.{total_by}
-use Rattle.mill_model.specs.Columns.{Rises, load}
+use Rattle.mill_model.specs.Columns.{load}
 use Rattle.mill_model.specs.Decisions.{Decision}
-use Rattle.mill_model.specs.Groups.{AreHeads, members}
+use Rattle.pricing_laws.specs.Groups.{AreHeads, members}
 use Rattle.mill_model.specs.Prices.{Prices}
-use Rattle.mill_model.specs.Gains.{gains_of}
+use Rattle.pricing_laws.specs.Gains.{gains_of}
 
 -- for each order its head; for each head, what its group weighs and gains
 pub record Groups : Type 0 where
@@ -27,15 +25,6 @@ pub record HasRoom (orders : ℕ) (g : Groups) : Type 0 where
   pub weights : length g.weights ≡ orders
   pub gains : length g.gains ≡ orders
 
--- the groups that the decisions join, weighed and priced
-pub record AreGroups (m : Mill) (decisions : List Decision) (p : Prices) (g : Groups) : Type 0 where
-  pub room : HasRoom (length m.orders) g
-  pub heads : AreHeads decisions g.heads
-  pub weights : (taken : List ℕ) → Rises 0 (length m.orders) taken → load m (members g.heads taken) ≡ sum_by (weight_at g) taken
-  pub gains : (taken : List ℕ) → Rises 0 (length m.orders) taken → gains_of m p (members g.heads taken) ≡ total_by (gain_at g) taken
-  pub light : (head : ℕ) → head < length m.orders → weight_at g head ≤ 250 * 10000
-  pub small : (head : ℕ) → head < length m.orders → unsigned_abs (gain_at g head) ≤ 250 * 2 ^ 76
-
 -- an order's head is no later one
 abbrev pub AreBefore : List ℕ → Type 0
 AreBefore heads = (o : ℕ) → o < length heads → slice_index_or heads o 0 ≤ o
@@ -51,3 +40,10 @@ pub record AreGains (m : Mill) (p : Prices) (heads : List ℕ) (gains : List ℤ
   pub size : length gains ≡ length heads
   pub gain : (head : ℕ) → head < length heads → slice_index_or gains head (pos 0) ≡ gains_of m p (members heads (head ∷ []))
   pub small : (head : ℕ) → head < length heads → unsigned_abs (slice_index_or gains head (pos 0)) ≤ 250 * 2 ^ 76
+
+-- the groups that the decisions join, weighed and priced
+pub record AreGroups (m : Mill) (decisions : List Decision) (p : Prices) (g : Groups) : Type 0 where
+  pub room : HasRoom (length m.orders) g
+  pub heads : AreHeads decisions g.heads
+  pub weights : AreWeights m g.heads g.weights
+  pub gains : AreGains m p g.heads g.gains

@@ -1,30 +1,45 @@
 -- Groups that are weighed and priced, order by order.
-use Rattle.std.proofs.Common.{◌≡◌, ℕ, ◌+◌, ◌*◌, ◌^◌, ◌<◌, ◌≤◌, ℤ, pos, ◌+ℤ◌, List, [], ◌∷◌, length, get_or, set, sym, ap, ◌∙◌, subst, inl, inr, arith, get_or-set_same, get_or-set_other}
+use Rattle.std.proofs.Common.{true, ◌≡◌, ℕ, ◌+◌, ◌*◌, ◌^◌, ◌<◌, ◌≤◌, ℤ, pos, ◌+ℤ◌, List, [], ◌∷◌, length, get_or, set, sym, ap, ◌∙◌, subst, inl, inr, arith, get_or-set_same, get_or-set_other}
 use Rattle.std.specs.Prelude.{unsigned_abs}
 use Rattle.std.proofs.lemmas.Bool.{cases_eq}
 use Rattle.std.proofs.lemmas.Int.{ints}
 use Rattle.mill_model.specs.Mill.{Mill}
 use Rattle.mill_model.specs.Prices.{Prices}
-use Rattle.mill_model.specs.Columns.{order_at, load}
+use Rattle.std.specs.List.{sum_by}
+use Rattle.mill_model.specs.SignedSums.{total_by}
+use Rattle.mill_model.specs.Columns.{order_at, load, has}
 use Rattle.mill_model.specs.Decisions.{Decision}
-use Rattle.mill_model.specs.Groups.{AreHeads, members}
-use Rattle.mill_model.specs.Gains.{gain_of, gains_of}
-use Rattle.mill_model.specs.Groupings.{Groups, AreBefore, AreWeights, AreGains, AreGroups, weight_at, gain_at}
-use Rattle.mill_model.proofs.Groups.{total-members, sum-members, total_rising, sum_rising, AreSums, AreTotals, sums_more, totals_more, sums_all, totals_all}
+use Rattle.pricing_laws.specs.Parts.{AreDistinct}
+use Rattle.pricing_laws.specs.Groups.{AreHeads, members}
+use Rattle.pricing_laws.specs.Gains.{gain_of, gains_of}
+use Rattle.pricing_laws.specs.Groupings.{Groups, AreBefore, AreWeights, AreGains, AreGroups, weight_at, gain_at}
+use Rattle.pricing_laws.proofs.Groups.{total-members, sum-members, total_alike, sum_alike, AreSums, AreTotals, sums_more, totals_more, sums_all, totals_all}
 
-groups_from : (m : Mill) (decisions : List Decision) (p : Prices) (g : Groups) → length g.heads ≡ length m.orders → AreHeads decisions g.heads → AreWeights m g.heads g.weights → AreGains m p g.heads g.gains → AreGroups m decisions p g
+pub groups_from : (m : Mill) (decisions : List Decision) (p : Prices) (g : Groups) → length g.heads ≡ length m.orders → AreHeads decisions g.heads → AreWeights m g.heads g.weights → AreGains m p g.heads g.gains → AreGroups m decisions p g
 groups_from m decisions p g size heads weights gains = record {
   room = record { heads = size; weights = weights.size ∙ size; gains = gains.size ∙ size };
   heads = heads;
-  weights = λ taken rises.
-      sum-members (λ o. (order_at m o).weight) 0 (length m.orders) g.heads taken rises
-      ∙ sum_rising (λ h. load m (members g.heads (h ∷ []))) (weight_at g) 0 (length m.orders) taken rises (λ h l. sym (weights.weight h (omega (arith, l, size))));
-  gains = λ taken rises.
-      total-members (gain_of m p) 0 (length m.orders) g.heads taken rises
-      ∙ total_rising (λ h. gains_of m p (members g.heads (h ∷ []))) (gain_at g) 0 (length m.orders) taken rises (λ h l. sym (gains.gain h (omega (arith, l, size))));
-  light = λ head l. weights.light head (omega (arith, l, size));
-  small = λ head l. gains.small head (omega (arith, l, size));
+  weights = weights;
+  gains = gains;
 }
+
+module _ (m : Mill) (decisions : List Decision) (p : Prices) (g : Groups) (groups : AreGroups m decisions p g) where
+  -- what some groups weigh and gain together
+  pub group_weights : (taken : List ℕ) → AreDistinct taken → ((h : ℕ) → has taken h ≡ true → h < length m.orders) → load m (members g.heads taken) ≡ sum_by (weight_at g) taken
+  group_weights taken d inside =
+      sum-members (λ o. (order_at m o).weight) g.heads taken d
+      ∙ sum_alike (λ h. h < length m.orders) (λ h. load m (members g.heads (h ∷ []))) (weight_at g) taken inside (λ h l. sym (groups.weights.weight h (omega (arith, l, groups.room.heads))))
+
+  pub group_gains : (taken : List ℕ) → AreDistinct taken → ((h : ℕ) → has taken h ≡ true → h < length m.orders) → gains_of m p (members g.heads taken) ≡ total_by (gain_at g) taken
+  group_gains taken d inside =
+      total-members (gain_of m p) g.heads taken d
+      ∙ total_alike (λ h. h < length m.orders) (λ h. gains_of m p (members g.heads (h ∷ []))) (gain_at g) taken inside (λ h l. sym (groups.gains.gain h (omega (arith, l, groups.room.heads))))
+
+  pub group_light : (head : ℕ) → head < length m.orders → weight_at g head ≤ 250 * 10000
+  group_light head l = groups.weights.light head (omega (arith, l, groups.room.heads))
+
+  pub group_small : (head : ℕ) → head < length m.orders → unsigned_abs (gain_at g head) ≤ 250 * 2 ^ 76
+  group_small head l = groups.gains.small head (omega (arith, l, groups.room.heads))
 
 -- the same where the lists were handed over
 pub groups_at : (m : Mill) (decisions : List Decision) (p : Prices) (g : Groups) (heads weights : List ℕ) (gains : List ℤ) → g.heads ≡ heads → g.weights ≡ weights → g.gains ≡ gains → length heads ≡ length m.orders

@@ -8,7 +8,9 @@ use Rattle.std.proofs.Math.Seq.{take-length}
 use Rattle.mill_model.specs.SignedSums.{total_by}
 use Rattle.mill_model.specs.Columns.{Column, has, Rises}
 use Rattle.mill_model.specs.Decisions.{Decision, column_agrees}
-use Rattle.mill_model.specs.Groups.{head_of, AreHeads, members_from, members, heads_in}
+use Rattle.pricing_laws.specs.Parts.{AreDistinct}
+use Rattle.pricing_laws.proofs.Parts.{has_here, has_later}
+use Rattle.pricing_laws.specs.Groups.{head_of, AreHeads, members_from, members, heads_in}
 use Rattle.mill_model.proofs.Signed.{total_by-append, total_by-pos, total_by-ext}
 use Rattle.mill_model.proofs.Duality.{not_has}
 use Rattle.mill_model.proofs.Slabs.{Rises-lower}
@@ -112,14 +114,15 @@ total-members_from_cons f low h taken (head ∷ heads) n =
     by_test true e = omega (arith, ints, e)
     by_test false e = e
 
-pub total-members : (f : ℕ → ℤ) (low n : ℕ) (heads taken : List ℕ) → Rises low n taken → total_by f (members heads taken) ≡ total_by (λ h. total_by f (members heads (h ∷ []))) taken
-total-members f low n heads [] r = total-members_from_none f 0 heads
-total-members f low n heads (h ∷ taken) r = omega (arith, ints, total-members_from_cons f 0 h taken heads (not_has (h + 1) n taken h r.2 (omega arith)), total-members f (h + 1) n heads taken r.2)
+-- the members of distinct heads, group by group
+pub total-members : (f : ℕ → ℤ) (heads taken : List ℕ) → AreDistinct taken → total_by f (members heads taken) ≡ total_by (λ h. total_by f (members heads (h ∷ []))) taken
+total-members f heads [] d = total-members_from_none f 0 heads
+total-members f heads (h ∷ taken) d = omega (arith, ints, total-members_from_cons f 0 h taken heads d.0, total-members f heads taken d.1)
 
-pub sum-members : (f : ℕ → ℕ) (low n : ℕ) (heads taken : List ℕ) → Rises low n taken → sum_by f (members heads taken) ≡ sum_by (λ h. sum_by f (members heads (h ∷ []))) taken
-sum-members f low n heads taken r =
+pub sum-members : (f : ℕ → ℕ) (heads taken : List ℕ) → AreDistinct taken → sum_by f (members heads taken) ≡ sum_by (λ h. sum_by f (members heads (h ∷ []))) taken
+sum-members f heads taken d =
     let signed : total_by (λ o. pos (f o)) (members heads taken) ≡ total_by (λ h. pos (sum_by f (members heads (h ∷ [])))) taken =
-    total-members (λ o. pos (f o)) low n heads taken r ∙ total_by-ext (λ h. total_by (λ o. pos (f o)) (members heads (h ∷ []))) (λ h. pos (sum_by f (members heads (h ∷ [])))) taken (λ h. total_by-pos f (members heads (h ∷ []))) in
+    total-members (λ o. pos (f o)) heads taken d ∙ total_by-ext (λ h. total_by (λ o. pos (f o)) (members heads (h ∷ []))) (λ h. pos (sum_by f (members heads (h ∷ [])))) taken (λ h. total_by-pos f (members heads (h ∷ []))) in
     omega (arith, ints, signed, total_by-pos f (members heads taken), total_by-pos (λ h. sum_by f (members heads (h ∷ []))) taken)
 
 -- ---- order by order
@@ -136,7 +139,13 @@ members_from-push low (y ∷ heads) head taken =
     by_test true e = ap (λ ys. low ∷ ys) e
     by_test false e = e
 
--- one order more
+-- one order more of the groups taken
+pub members_take : (heads taken : List ℕ) (o : ℕ) → o < length heads → members (take (o + 1) heads) taken ≡ members (take o heads) taken ++ cond (has taken (head_of heads o)) (o ∷ []) []
+members_take heads taken o h =
+    ap (λ hs. members hs taken) (take_more heads o 0 h) ∙ members_from-push 0 (take o heads) (head_of heads o) taken
+    ∙ ap (λ n. members (take o heads) taken ++ cond (has taken (head_of heads o)) (n ∷ []) []) (omega (arith, length-take o heads))
+
+-- one order more of one group
 pub members-more : (heads : List ℕ) (h o : ℕ) → o < length heads → members (take (o + 1) heads) (h ∷ []) ≡ members (take o heads) (h ∷ []) ++ cond (eqb h (head_of heads o)) (o ∷ []) []
 members-more heads h o l =
     ap (λ hs. members hs (h ∷ [])) (take_more heads o 0 l)
@@ -233,15 +242,15 @@ sums_more f heads o sums l b are = record { size = omega (arith, are.size, lengt
 pub sums_all : (f : ℕ → ℕ) (heads : List ℕ) (sums : List ℕ) → AreSums f heads (length heads) sums → (h : ℕ) → h < length heads → get_or sums h 0 ≡ sum_by f (members heads (h ∷ []))
 sums_all f heads sums are h l = are.sum h l ∙ ap (λ hs. sum_by f (members hs (h ∷ []))) (take-length heads)
 
--- ---- sums over rising numbers
+-- ---- sums over numbers that are alike
 
-pub total_rising : (f g : ℕ → ℤ) (low n : ℕ) (xs : List ℕ) → Rises low n xs → ((x : ℕ) → x < n → f x ≡ g x) → total_by f xs ≡ total_by g xs
-total_rising f g low n [] r e = refl
-total_rising f g low n (x ∷ xs) r e = omega (arith, ints, e x r.1, total_rising f g (x + 1) n xs r.2 e)
+pub total_alike : (P : ℕ → Type 0) (f g : ℕ → ℤ) (xs : List ℕ) → ((x : ℕ) → has xs x ≡ true → P x) → ((x : ℕ) → P x → f x ≡ g x) → total_by f xs ≡ total_by g xs
+total_alike P f g [] h e = refl
+total_alike P f g (x ∷ xs) h e = omega (arith, ints, e x (h x (has_here x xs)), total_alike P f g xs (λ y q. h y (has_later y x xs q)) e)
 
-pub sum_rising : (f g : ℕ → ℕ) (low n : ℕ) (xs : List ℕ) → Rises low n xs → ((x : ℕ) → x < n → f x ≡ g x) → sum_by f xs ≡ sum_by g xs
-sum_rising f g low n [] r e = refl
-sum_rising f g low n (x ∷ xs) r e = omega (arith, sum_by-cons f x xs, sum_by-cons g x xs, e x r.1, sum_rising f g (x + 1) n xs r.2 e)
+pub sum_alike : (P : ℕ → Type 0) (f g : ℕ → ℕ) (xs : List ℕ) → ((x : ℕ) → has xs x ≡ true → P x) → ((x : ℕ) → P x → f x ≡ g x) → sum_by f xs ≡ sum_by g xs
+sum_alike P f g [] h e = refl
+sum_alike P f g (x ∷ xs) h e = omega (arith, sum_by-cons f x xs, sum_by-cons g x xs, e x (h x (has_here x xs)), sum_alike P f g xs (λ y q. h y (has_later y x xs q)) e)
 
 -- ---- heads
 

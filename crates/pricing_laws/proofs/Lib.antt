@@ -1,0 +1,11 @@
+pub mod Parts
+pub mod Groups
+pub mod Groupings
+pub mod Excesses
+pub mod Tables
+pub mod Numbers
+pub mod Problems
+pub mod Colours
+pub mod Choices
+pub mod Worths
+pub mod Rankings

@@ -1,0 +1,9 @@
+pub mod Gains
+pub mod Groups
+pub mod Groupings
+pub mod Problems
+pub mod Parts
+pub mod Colours
+pub mod Worths
+pub mod Bounds
+pub mod Choices

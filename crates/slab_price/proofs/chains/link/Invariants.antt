@@ -1,0 +1,12 @@
+use Rattle.std.proofs.Common.{◌≤◌, length, slice_index}
+use Rattle.slab_price.specs.Chains.{IsChainedFrom}
+use Rattle.slab_price.proofs.chains.link.Given as goal
+
+abbrev pub invariant-loop-at : goal.invariant-loop-at
+invariant-loop-at l = record {
+  within : l.at ≤ length l.keys;
+  chained : IsChainedFrom (slice_index l.keys) (length l.keys) l.at l.first l.next;
+}
+
+abbrev pub decreases-loop-at : goal.decreases-loop-at
+decreases-loop-at l = l.at

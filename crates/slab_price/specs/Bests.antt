@@ -1,0 +1,49 @@
+-- The best column so far, and what makes it better.
+use Rattle.std.specs.Prelude.{◌≡◌, ◌⊎◌, ℕ, ◌^◌, ◌<◌, ◌≤◌, ℤ, pos, ◌≤ℤ◌, unsigned_abs, List, length}
+use Rattle.mill_model.specs.declared.kind.Kind.{Kind}
+use Rattle.mill_model.specs.declared.kind.Kind.TheVariants.{New, Old}
+use Rattle.mill_model.specs.Columns.{Column, Rises, colours_of, load}
+use Rattle.pricing_laws.specs.Gains.{gains_of}
+use Rattle.pricing_laws.specs.Problems.{Problem, ExceedAtMost}
+use Rattle.slab_price.specs.declared.best.Best.{Best}
+use Rattle.slab_price.specs.Excess.{IsFound}
+use Rattle.slab_price.specs.Found.{Found}
+use Rattle.slab_price.specs.Tasks.{problem_of}
+use Rattle.slab_price.specs.declared.task.Task.{Task}
+
+abbrev pub as_found : Best → Found
+as_found best = record { kind = best.kind; orders = best.orders.items; excess = best.excess }
+
+-- nothing is found yet, or a column
+abbrev pub IsBest : Problem → Best → Type 0
+IsBest q best = (best.excess ≡ pos 0) ⊎ IsFound q.mill q.decisions q.prices (as_found best)
+
+-- the best column stays, or gives way to a better one, and no column that is so exceeds more
+pub record IsImproved (q : Problem) (old new : Best) (IsSo : Column → Type 0) : Type 0 where
+  pub kept : IsBest q old → IsBest q new
+  pub grows : old.excess ≤ℤ new.excess
+  pub most : ExceedAtMost q new.excess IsSo
+
+abbrev pub IsImprovedIn : Task → Best → Best → (Column → Type 0) → Type 0
+IsImprovedIn t old new IsSo = IsImproved (problem_of t) old new IsSo
+
+-- some orders that may lie on one slab, by their colours, with their load and gain
+pub record IsPack (q : Problem) (orders : List ℕ) (weight : ℕ) (gain : ℤ) : Type 0 where
+  pub rises : Rises 0 (length q.mill.orders) orders
+  pub some : 0 < length orders
+  pub colours : colours_of q.mill orders ≤ q.mill.colour_limit
+  pub load_is : weight ≡ load q.mill orders
+  pub gain_is : gain ≡ gains_of q.mill q.prices orders
+  pub small : unsigned_abs gain ≤ 2 ^ 92
+
+-- ---- columns of these orders
+
+abbrev pub IsColumn : Kind → List ℕ → Column → Type 0
+IsColumn kind orders c = c ≡ record { kind = kind; orders = orders }
+
+abbrev pub IsOnNew : List ℕ → Column → Type 0
+IsOnNew orders c = (size : ℕ) × IsColumn (New size) orders c
+
+-- on one of the first so many surplus slabs
+abbrev pub IsOnYard : ℕ → List ℕ → Column → Type 0
+IsOnYard slabs orders c = (s : ℕ) × (s < slabs) × IsColumn (Old s) orders c

@@ -1,0 +1,11 @@
+pub mod Excess
+pub mod Found
+pub mod Tasks
+pub mod Chains
+pub mod Groupings
+pub mod Frames
+pub mod Grids
+pub mod Tables
+pub mod Searches
+pub mod Hunts
+pub mod Bests
