@@ -76,7 +76,7 @@ sound_from m p k e =
     let h = find-cons_none (breaks m p) (Barred k) [] g.1 in
     record { some = a.0; listed = b.0; there = c.0; once = d.0; holds = f.0; colours = g.0; bars = h.0 }
 
-from_sound : (m : Mill) (p : Plan) (k : ℕ) → IsSound m p k → find (breaks m p) (slab_rules k) ≡ None
+pub from_sound : (m : Mill) (p : Plan) (k : ℕ) → IsSound m p k → find (breaks m p) (slab_rules k) ≡ None
 from_sound m p k s =
     find-cons_no (breaks m p) (Empty k) (Size k ∷ Yard k ∷ Twice k ∷ Load k ∷ Colours k ∷ Barred k ∷ []) s.some
     ∙ find-cons_no (breaks m p) (Size k) (Yard k ∷ Twice k ∷ Load k ∷ Colours k ∷ Barred k ∷ []) s.listed
@@ -169,18 +169,20 @@ sound_fits m p k s = record {
   bars = s.bars;
 }
 
+-- a slab that fits breaks no rule, where no surplus slab is used twice
+pub sound_where_fits : (m : Mill) (p : Plan) (k : ℕ) → k < length p.kinds → ((s : ℕ) → count_by (is_old s) p.kinds ≤ 1) → Fits m (slab p k) → IsSound m p k
+sound_where_fits m p k l once fits = record {
+  some = ne_eqb (length (slab p k).orders) 0 (λ e. omega (arith, fits.some));
+  listed = listed_in_stock m (slab p k).kind fits.kind;
+  there = there_in_stock m (slab p k).kind fits.kind;
+  once = among_twice p.kinds k l once;
+  holds = le-ltb (size_of m (slab p k).kind) (load m (slab p k).orders) fits.weight;
+  colours = le-ltb m.colour_limit (colours_of m (slab p k).orders) fits.colours;
+  bars = fits.bars;
+}
+
 fits_sound : (m : Mill) (p : Plan) (k : ℕ) → k < length p.kinds → IsLegal m p → IsSound m p k
-fits_sound m p k l legal =
-    let fits : Fits m (slab p k) = legal.fits k l in
-    record {
-      some = ne_eqb (length (slab p k).orders) 0 (λ e. omega (arith, fits.some));
-      listed = listed_in_stock m (slab p k).kind fits.kind;
-      there = there_in_stock m (slab p k).kind fits.kind;
-      once = among_twice p.kinds k l legal.once;
-      holds = le-ltb (size_of m (slab p k).kind) (load m (slab p k).orders) fits.weight;
-      colours = le-ltb m.colour_limit (colours_of m (slab p k).orders) fits.colours;
-      bars = fits.bars;
-    }
+fits_sound m p k l legal = sound_where_fits m p k l legal.once (legal.fits k l)
 
 pub legal_from_rules : (m : Mill) (p : Plan) → find (breaks m p) (Places ∷ map Place (range_with_len 0 (length p.place))) ≡ None → find (breaks m p) (flat_map slab_rules (range_with_len 0 (length p.kinds))) ≡ None → IsLegal m p
 legal_from_rules m p places slabs =

@@ -1,0 +1,13 @@
+pub use Rattle.slab_relax.specs.Nodes
+pub use Rattle.slab_relax.specs.Tallies
+pub use Rattle.slab_relax.specs.PoolCovers
+pub mod Turns
+pub mod Grouped
+pub mod Built
+pub mod Settled
+pub mod Stated
+pub mod Misfits
+pub mod Settlements
+pub mod Shares
+pub mod Taken
+pub mod Choices

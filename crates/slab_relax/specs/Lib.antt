@@ -1,0 +1,7 @@
+pub mod Nodes
+pub mod Tallies
+pub mod PoolCovers
+pub mod Rows
+pub mod Duals
+pub mod Masters
+pub mod Rounds

@@ -1,0 +1,72 @@
+//! The cover of least loss.
+ghost use Rattle.std.specs.Prelude.{◌≡◌, ◌<◌, IfOk, length, pos};
+ghost use Rattle.mill_model.specs.Columns.{loss_of};
+ghost use Rattle.slab_master.specs.Given.{IsSmall};
+ghost use Rattle.slab_master.specs.Least.{AreCosts};
+ghost use Rattle.slab_master.specs.Spread.{IsSpread};
+ghost use Rattle.slab_relax.specs.PoolCovers.{column_at, IsPoolCover, HasLeastLoss};
+ghost use Rattle.slab_relax.specs.Masters.{IsRestricted, losses_of, allowed_of};
+ghost use Rattle.slab_relax.specs.Tallies.{AreNoLess, HasCause};
+
+use crate::entries::loss_of;
+use crate::restricted::Restricted;
+use crate::{Cover, Node, Tally};
+use slab_columns::{ColId, Pool};
+use slab_master::{FracList, Least};
+use std::alloc::{AllocError, Global};
+
+// What a column of the pool loses.
+fn loss(node: &Node<'_>, pool: &Pool, id: ColId) -> i64
+    requires mill { pool.now.mill ≡ node.now.mill.now }
+    requires within { id.0 < length pool.now.columns }
+    ensures value { result ≡ pos (loss_of node.now.mill.now (column_at pool.now.columns id)) }
+    ensures small { IsSmall result }
+{
+    let column = pool.column(id);
+    i64::from(loss_of(node.mill, column.kind, column.orders))
+}
+
+impl Restricted {
+    // What each column of the master loses.
+    fn losses(&self, alloc: Global, node: &Node<'_>, pool: &Pool) -> Result<Vec<i64>, AllocError>
+        requires mill { pool.now.mill ≡ node.now.mill.now }
+        requires restricted { IsRestricted node.now pool.now.columns self.now }
+        ensures value { IfOk result (λ losses. losses.items ≡ losses_of node.now.mill.now (allowed_of node.now.decisions.now.list pool.now.columns)) }
+        ensures costs { IfOk result (λ losses. AreCosts (length self.now.master.columns) losses.items) }
+    {
+        let mut losses = Vec::with_capacity(alloc, self.ids.len())?;
+        for id in &self.ids {
+            losses.push(loss(node, pool, *id))?;
+        }
+        Ok(losses)
+    }
+
+    // The cover of least loss, where a second solve finds it, else that of the multipliers that the first one found.
+    pub(crate) fn least_cover(
+        &mut self,
+        alloc: Global,
+        node: &Node<'_>,
+        pool: &Pool,
+        found: &FracList,
+        tally: &mut Tally,
+    ) -> Result<Cover, AllocError>
+        requires mill { pool.now.mill ≡ node.now.mill.now }
+        requires restricted { IsRestricted node.now pool.now.columns self.old }
+        requires spread { IsSpread self.old.master.rows self.old.master.columns found.now }
+        ensures covers { IfOk result (IsPoolCover node.now.mill.now node.now.limits node.now.decisions.now.list pool.now.columns) }
+        ensures least { (HasCause tally.old tally.new → ⊥) → IfOk result (HasLeastLoss node.now.mill.now node.now.limits node.now.decisions.now.list pool.now.columns) }
+        ensures counters { AreNoLess tally.old tally.new }
+    {
+        let _legal = pool.len();
+        let losses = self.losses(alloc, node, pool)?;
+        let solved = self
+            .master
+            .solve_least(alloc, &losses, &mut tally.wides, &mut tally.stalls)?;
+        match solved {
+            Least::Best { x, y: _y } => self.cover(alloc, node, pool, x.list()),
+            Least::Prices(_prices) => unreachable!(),
+            Least::Wide => self.cover(alloc, node, pool, found.list()),
+            Least::Stalled => self.cover(alloc, node, pool, found.list()),
+        }
+    }
+}
