@@ -1,0 +1,3 @@
+pub mod PoolCovers
+pub mod Tallies
+pub mod Turns

@@ -1,0 +1,105 @@
+-- What one node's turn is asked and what it answers.
+use Rattle.std.specs.Prelude.{◌≡◌, ℕ, Bool, List, length}
+use Rattle.mill_model.specs.declared.ask.Ask.{Ask}
+use Rattle.mill_model.specs.declared.limits.Limits.{Limits}
+use Rattle.mill_model.specs.Mill.{Mill}
+use Rattle.mill_model.specs.Plans.{Plan, IsLegal, IsInOrder, sums_of}
+use Rattle.mill_model.specs.Limits.{IsWithin, number_of}
+use Rattle.mill_model.specs.Prices.{Prices, Refutes}
+use Rattle.mill_model.specs.Covers.{Part, IsCover}
+use Rattle.mill_model.specs.Decisions.{Decision, IsAsk, PlanAgrees}
+use Rattle.mill_model.specs.Assignments.{Follows}
+use Rattle.slab_master.specs.Given.{IsSmall}
+use Rattle.slab_columns.specs.Pool.{Pool}
+use Rattle.slab_decide.specs.Decided.{Decisions}
+use Rattle.slab_node.specs.PoolCovers.{Cover}
+use Rattle.slab_node.specs.Tallies.{HasCause}
+use Rattle.slab_node.specs.declared.tally.Tally.{Tally}
+use Rattle.slab_node.specs.declared.turned.Turned.{Turned}
+use Rattle.slab_node.specs.declared.turned.Turned.TheVariants.{Refuted, InBox, Spread, Bare}
+
+-- the sizes, the decisions and the pool are those of one mill, and each limit that stands is at most 2 ^ 40 in absolute value
+pub record IsNode (m : Mill) (listed : List ℕ) (decisions : Decisions) (limits : Limits) (columns : Pool) : Type 0 where
+  pub sizes : listed ≡ m.sizes
+  pub orders : decisions.orders ≡ length m.orders
+  pub yard : decisions.yard ≡ length m.yard
+  pub loss : IsSmall (number_of limits.loss)
+  pub count : IsSmall (number_of limits.count)
+  pub pool : columns.mill ≡ m
+
+-- ---- what an answer carries
+
+-- a legal plan in order, within the limits, that agrees with the decisions
+pub record IsInBox (m : Mill) (limits : Limits) (decisions : List Decision) (p : Plan) : Type 0 where
+  pub legal : IsLegal m p
+  pub order : IsInOrder p
+  pub within : IsWithin (sums_of m p) limits
+  pub agrees : PlanAgrees decisions p
+
+-- neither answer follows
+abbrev pub IsUndecided : List Decision → Ask → Type 0
+IsUndecided decisions ask = (b : Bool) → Follows decisions ask b → ⊥
+
+-- a question of the mill that doesn't follow from the decisions
+pub record IsOpenAsk (m : Mill) (decisions : List Decision) (ask : Ask) : Type 0 where
+  pub asked : IsAsk m ask
+  pub undecided : IsUndecided decisions ask
+
+-- some cover is within the limits by columns that agree, so no prices refute them
+pub record HasCover (m : Mill) (limits : Limits) (decisions : List Decision) : Type 0 where
+  pub denominator : ℕ
+  pub parts : List Part
+  pub covers : IsCover m limits decisions denominator parts
+
+-- ---- which answer it is
+
+abbrev pub IfRefuted : Turned → (Prices → Type 0) → Type 0
+IfRefuted (Refuted p) P = P p
+IfRefuted (InBox plan) P = Unit {0}
+IfRefuted (Spread cover ask) P = Unit {0}
+IfRefuted (Bare ask) P = Unit {0}
+
+abbrev pub IfInBox : Turned → (Plan → Type 0) → Type 0
+IfInBox (Refuted p) P = Unit {0}
+IfInBox (InBox plan) P = P plan
+IfInBox (Spread cover ask) P = Unit {0}
+IfInBox (Bare ask) P = Unit {0}
+
+abbrev pub IfSpread : Turned → (Cover → Type 0) → Type 0
+IfSpread (Refuted p) P = Unit {0}
+IfSpread (InBox plan) P = Unit {0}
+IfSpread (Spread cover ask) P = P cover
+IfSpread (Bare ask) P = Unit {0}
+
+abbrev pub IfBare : Turned → (Ask → Type 0) → Type 0
+IfBare (Refuted p) P = Unit {0}
+IfBare (InBox plan) P = Unit {0}
+IfBare (Spread cover ask) P = Unit {0}
+IfBare (Bare ask) P = P ask
+
+-- what holds of the question that a cover or a bare node names
+abbrev pub IfAsks : Turned → (Ask → Type 0) → Type 0
+IfAsks (Refuted p) P = Unit {0}
+IfAsks (InBox plan) P = Unit {0}
+IfAsks (Spread cover ask) P = P ask
+IfAsks (Bare ask) P = P ask
+
+abbrev pub IsRefuted : Turned → Type 0
+IsRefuted (Refuted p) = Unit {0}
+IsRefuted (InBox plan) = ⊥
+IsRefuted (Spread cover ask) = ⊥
+IsRefuted (Bare ask) = ⊥
+
+-- the node is closed: nothing is left to ask
+abbrev pub IsClosed : Turned → Type 0
+IsClosed (Refuted p) = Unit {0}
+IsClosed (InBox plan) = Unit {0}
+IsClosed (Spread cover ask) = ⊥
+IsClosed (Bare ask) = ⊥
+
+-- what a turn's answer shows of its node, whatever the pool
+abbrev pub IsTurn : Mill → Limits → List Decision → Tally → Tally → Turned → Type 0
+IsTurn m limits decisions old new (Refuted p) = Refutes m limits decisions p
+IsTurn m limits decisions old new (InBox plan) = IsInBox m limits decisions plan
+IsTurn m limits decisions old new (Spread cover ask) = HasCover m limits decisions × IsOpenAsk m decisions ask
+IsTurn m limits decisions old new (Bare ask) = HasCause old new × IsOpenAsk m decisions ask

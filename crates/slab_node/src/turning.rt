@@ -1,0 +1,60 @@
+ghost use Rattle.std.specs.Prelude.{◌≡◌, ◌≤◌, IfOk, length};
+ghost use Rattle.mill_model.specs.Assignments.{AreSettled};
+ghost use Rattle.mill_model.specs.Plain.{IsPlainlyRefuted};
+ghost use Rattle.mill_model.specs.Prices.{Refutes};
+ghost use Rattle.slab_decide.specs.Decided.{IsFirstOpen};
+ghost use Rattle.slab_columns.specs.Pool.{HasGrown};
+ghost use Rattle.slab_node.specs.PoolCovers.{IsPoolCover, HasLeastLoss};
+ghost use Rattle.slab_node.specs.Tallies.{AreNoLess, HasCause};
+ghost use Rattle.slab_node.specs.Turns.{IsNode, IsInBox, IsOpenAsk, IfRefuted, IfInBox, IfSpread, IfBare, IfAsks, IsRefuted, IsClosed, IsTurn};
+
+use crate::{Tally, Turned};
+use loss_table::LossTable;
+use mill_model::{Limits, Mill};
+use slab_columns::Pool;
+use slab_decide::Decisions;
+use std::alloc::{AllocError, Global};
+
+/// One node's turn. It answers prices that refute the limits under the decisions, a plan within them, or a fractional cover,
+/// which shows that no prices refute them, with an ask to split on. Where a counter of the tally rose or stands at its last
+/// value, neither prices nor a cover may come. The pool may hold any columns of the mill; columns join it, and one of more
+/// than 4,096 columns may be emptied first.
+///
+/// The only error is want of memory: the pool may have changed as above, and the counters may have risen.
+pub fn turn(
+    alloc: Global,
+    mill: &Mill,
+    table: &LossTable,
+    decisions: &Decisions,
+    limits: Limits,
+    pool: &mut Pool,
+    tally: &mut Tally,
+) -> Result<Turned, AllocError>
+    requires node { IsNode mill.now table.now decisions.now limits pool.old }
+
+    // What each answer carries.
+    ensures refuted { IfOk result (λ t. IfRefuted t (Refutes mill.now limits decisions.now.list)) }
+    ensures in_box { IfOk result (λ t. IfInBox t (IsInBox mill.now limits decisions.now.list)) }
+    ensures cover { IfOk result (λ t. IfSpread t (IsPoolCover mill.now limits decisions.now.list pool.new.columns)) }
+    ensures cause { IfOk result (λ t. IfBare t (λ _. HasCause tally.old tally.new)) }
+    ensures first { IfOk result (λ t. IfBare t (IsFirstOpen decisions.now)) }
+    ensures ask { IfOk result (λ t. IfAsks t (IsOpenAsk mill.now decisions.now.list)) }
+
+    // When which answer comes.
+    ensures settled { AreSettled mill.now decisions.now.list → IfOk result IsClosed }
+    ensures plain { IsPlainlyRefuted mill.now limits → IfOk result IsRefuted }
+
+    // With no cause for less the cover has the least loss that columns of the pool can have.
+    ensures least { (HasCause tally.old tally.new → ⊥)
+        → IfOk result (λ t. IfSpread t (HasLeastLoss mill.now limits decisions.now.list pool.new.columns)) }
+
+    // The same in short, for a search that doesn't keep the pool.
+    ensures turned { IfOk result (IsTurn mill.now limits decisions.now.list tally.old tally.new) }
+
+    // What a turn changes, also where memory is wanting.
+    ensures counters { AreNoLess tally.old tally.new }
+    ensures mill { pool.new.mill ≡ mill.now }
+    ensures grown { length pool.old.columns ≤ 4096 → HasGrown pool.old pool.new }
+{
+    Err(AllocError)
+}
