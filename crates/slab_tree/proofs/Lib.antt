@@ -1,0 +1,12 @@
+pub mod Counts
+pub mod Standing
+pub mod Limits
+pub mod Sums
+pub mod Tallies
+pub mod BoundedTurns
+pub mod Moves
+pub mod Gains
+pub mod Outlines
+pub mod Endings
+pub mod Starting
+pub mod StepLists
