@@ -10,3 +10,4 @@ pub mod Outlines
 pub mod Endings
 pub mod Starting
 pub mod StepLists
+pub mod BareMarks

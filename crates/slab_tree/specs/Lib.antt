@@ -6,3 +6,4 @@ pub mod Steps
 pub mod Bounding
 pub mod Searches
 pub mod Stepping
+pub mod Tightening

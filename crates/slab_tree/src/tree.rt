@@ -14,6 +14,7 @@ ghost use Rattle.slab_tree.specs.Stepping.{IsClosed, IsBranched, IsSplitUnder, I
 
 mod ends;
 mod run;
+mod tighten;
 
 use crate::path::{next_branch, replay};
 use crate::{Node, Nodes};
