@@ -9,7 +9,10 @@ use Rattle.slab_node.specs.declared.tally.Tally.{Tally}
 use Rattle.slab_node.specs.declared.turned.Turned.{Turned}
 use Rattle.slab_node.specs.declared.turned.Turned.TheVariants.{Refuted, InBox, Spread, Bare}
 use Rattle.slab_node.specs.Tallies.{AreNoLess}
-use Rattle.slab_node.specs.Turns.{IsTurn, IsRefuted}
+use Rattle.slab_node.specs.Turns.{IsTurn, IsRefuted, IfSpread}
+use Rattle.slab_node.specs.PoolCovers.{IsPoolCover}
+use Rattle.mill_model.specs.Columns.{Column}
+use Rattle.slab_tree.specs.Asking.{AreThere}
 use Rattle.slab_tree.proofs.Limits.{box_greater, cover_greater}
 use Rattle.slab_tree.proofs.Tallies.{cause_later}
 
@@ -34,3 +37,10 @@ refuted_or_not (Refuted p) isnt w = isnt p refl
 refuted_or_not (InBox p) isnt w = w
 refuted_or_not (Spread cover ask) isnt w = w
 refuted_or_not (Bare ask) isnt w = w
+
+-- a cover by columns of a pool names columns that there are
+pub spread_there : (m : Mill) (limits : Limits) (path : List Decision) (columns : List Column) (t : Turned) → IfSpread t (IsPoolCover m limits path columns) → IfSpread t (AreThere columns)
+spread_there m limits path columns (Refuted p) h = tt
+spread_there m limits path columns (InBox p) h = tt
+spread_there m limits path columns (Spread cover ask) h = h.within
+spread_there m limits path columns (Bare ask) h = tt

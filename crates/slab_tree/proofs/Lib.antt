@@ -11,6 +11,6 @@ pub mod Endings
 pub mod Starting
 pub mod StepLists
 pub mod BareMarks
-pub mod Shares
+pub mod ShownCovers
 pub mod Remainders
 pub mod Rewriting

@@ -1,5 +1,6 @@
 -- How a walk's standing changes: a node is closed, a node is split, the limits fall.
 use Rattle.std.proofs.Common.{◌≡◌, suc, Bool, true, false, List, [], ◌∷◌, ◌++◌, map, Option, Some, None, refl, sym, ap, subst, ◌∙◌, append_assoc, arith, Contains, inl, inr, not, length, ℕ, length-append}
+use Rattle.std.specs.Prelude.{◌⊎◌}
 use Rattle.mill_model.specs.declared.ask.Ask.{Ask}
 use Rattle.mill_model.specs.declared.limits.Limits.{Limits}
 use Rattle.mill_model.specs.declared.mark.Mark.{Mark}
@@ -7,16 +8,17 @@ use Rattle.mill_model.specs.Mill.{Mill}
 use Rattle.mill_model.specs.Prices.{Prices, Refutes}
 use Rattle.mill_model.specs.Limits.{AreSmaller}
 use Rattle.mill_model.specs.Assignments.{Follows, IsLean, answer}
-use Rattle.mill_model.specs.Decisions.{Decision, AreAsks}
+use Rattle.mill_model.specs.Decisions.{Decision, AreAsks, IsAskAmong}
 use Rattle.mill_model.specs.Paths.{next_branch}
 use Rattle.mill_model.specs.Trees.{Tree, IsFresh, EverySplit}
 use Rattle.mill_model.specs.Trees.Tree.{End, Split}
 use Rattle.mill_model.proofs.Gap.{Contains-cases}
 use Rattle.mill_model.proofs.TreeLaws.{tree_smaller}
-use Rattle.slab_decide.specs.Decided.{Decisions, AreConsistent, HasDecided}
+use Rattle.slab_decide.specs.Decided.{Decisions, AreConsistent, HasDecided, IsOpen}
 use Rattle.slab_node.specs.Turns.{IsOpenAsk, IsUndecided}
 use Rattle.slab_tree.specs.declared.node.Node.{Node}
 use Rattle.slab_tree.specs.declared.node.Node.TheVariants.{Closed, Branched}
+use Rattle.slab_tree.specs.Asking.{IsOpenAskOf}
 use Rattle.slab_tree.specs.Marking.{MarkRule}
 use Rattle.slab_tree.specs.Standing.{IsSplit, IsDone, nodes_of, Stands, waiting, GoesOn, IsOpenPath}
 
@@ -147,3 +149,22 @@ module _ (m : Mill) (Rule : MarkRule) (smaller limits : Limits) (fall : AreSmall
 pub lean : {E : Type 0} (m : Mill) (Rule : MarkRule) (t : Tree Mark E) (path : List Decision) → EverySplit (IsSplit m Rule) t path → IsLean t path
 lean m Rule (End e) path h = tt
 lean m Rule (Split mark ask left right) path h = (h.0.opened.undecided, lean m Rule left ((ask, true) ∷ path) h.1, lean m Rule right ((ask, false) ∷ path) h.2)
+
+-- a question that either answer may be given to doesn't follow
+open_undecided : (list : List Decision) (ask : Ask) → IsOpen list ask → IsUndecided list ask
+open_undecided list ask h true f = absurd (differ (sym (f h.may_be_no.0 h.may_be_no.1.1) ∙ h.may_be_no.1.0))
+  where
+    differ : true ≡ false → ⊥
+    differ e = cc
+open_undecided list ask h false f = absurd (differ (sym (f h.may_be_yes.0 h.may_be_yes.1.1) ∙ h.may_be_yes.1.0))
+  where
+    differ : false ≡ true → ⊥
+    differ e = cc
+
+-- the question that was chosen is open
+pub chosen_open : (m : Mill) (decisions : Decisions) (path : List Decision) (first ask : Ask) → decisions.orders ≡ length m.orders → decisions.yard ≡ length m.yard → decisions.list ≡ path → IsOpenAsk m path first → (ask ≡ first) ⊎ IsOpenAskOf decisions ask → IsOpenAsk m path ask
+chosen_open m decisions path first ask orders yard list h (inl e) = subst (λ (a : Ask). IsOpenAsk m path a) (sym e) h
+chosen_open m decisions path first ask orders yard list h (inr w) = record {
+  asked = subst (λ (n : ℕ × ℕ). IsAskAmong n.0 n.1 ask) (λ i. (orders i, yard i)) w.asked;
+  undecided = subst (λ (l : List Decision). IsUndecided l ask) list (open_undecided decisions.list ask w.opened);
+}

@@ -6,6 +6,7 @@ pub mod Steps
 pub mod Bounding
 pub mod Searches
 pub mod Stepping
+pub mod Asking
 pub mod Remainders
 pub mod Showing
 pub mod Tightening

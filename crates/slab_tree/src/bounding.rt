@@ -7,9 +7,11 @@ ghost use Rattle.mill_model.specs.Prices.{IsPrice};
 ghost use Rattle.mill_model.specs.Plain.{IsPlainlyRefuted};
 ghost use Rattle.slab_master.specs.Given.{IsSmall};
 ghost use Rattle.slab_node.specs.Tallies.{AreNoLess};
-ghost use Rattle.slab_node.specs.Turns.{IsNode, IsTurn, IsRefuted};
+ghost use Rattle.slab_node.specs.Turns.{IsNode, IsTurn, IsRefuted, IfSpread};
+ghost use Rattle.slab_tree.specs.Asking.{AreThere};
 ghost use Rattle.slab_tree.specs.Bounding.{HasLimits, IsWorth, IsPaidFor};
 
+use crate::guide::Guide;
 use loss_table::LossTable;
 use mill_model::{Limits, Mill, Prices};
 use slab_columns::Pool;
@@ -30,7 +32,7 @@ pub(crate) fn bounded_turn(
     mill: &Mill,
     table: &LossTable,
     decisions: &Decisions,
-    aim: &mut i64,
+    guide: &mut Guide,
     limits: Limits,
     pool: &mut Pool,
     tally: &mut Tally,
@@ -38,15 +40,17 @@ pub(crate) fn bounded_turn(
     requires { IsNode mill.now table.now decisions.now limits pool.old }
     ensures turned { IfOk result (IsTurn mill.now limits decisions.now.list tally.old tally.new) }
     ensures plain { IsPlainlyRefuted mill.now limits → IfOk result IsRefuted }
+    ensures cover { IfOk result (λ t. IfSpread t (AreThere pool.new.columns)) }
     ensures counters { AreNoLess tally.old tally.new }
     ensures mill { pool.new.mill ≡ mill.now }
+    ensures extent { guide.new ≡ guide.old }
 {
     for _ in 0..MOST_RAISES {
-        let smaller = smaller_limits(limits, *aim);
+        let smaller = smaller_limits(limits, guide.aim());
         match turn(alloc, mill, table, decisions, smaller, pool, tally)? {
             Turned::Refuted(prices) => match left_by(mill, &prices, limits) {
                 None => return Ok(Turned::Refuted(prices)),
-                Some(left) => *aim = left,
+                Some(left) => guide.raise(left),
             },
             turned => return Ok(turned),
         }

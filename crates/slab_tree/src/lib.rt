@@ -5,10 +5,14 @@
 #![tactic(auto)]
 
 mod bounding;
+mod guide;
 mod node;
 mod nodes;
 mod path;
+mod questions;
+mod records;
 mod rest;
+mod shares;
 mod showing;
 mod tree;
 

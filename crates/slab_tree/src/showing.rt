@@ -1,6 +1,6 @@
 //! A cover by columns of the pool, as a mark shows it.
 
-ghost use Rattle.std.specs.Prelude.{◌≡◌, ◌<◌, ◌≤◌, ◌++◌, List, All, IfOk, OnOk, true, length};
+ghost use Rattle.std.specs.Prelude.{◌≡◌, ◌<◌, ◌≤◌, ◌++◌, List, IfOk, OnOk, true, length};
 ghost use Rattle.mill_model.specs.declared.limits.Limits.{Limits};
 ghost use Rattle.mill_model.specs.Decisions.{Decision};
 ghost use Rattle.mill_model.specs.Mill.{Mill};
@@ -8,6 +8,7 @@ ghost use Rattle.slab_counter.specs.Counter.{Rose};
 ghost use Rattle.slab_frac.specs.Scaled.{AreInRange};
 ghost use Rattle.slab_node.specs.PoolCovers.{IsPoolCover, column_at, multipliers as multipliers_in};
 ghost use Rattle.slab_node.specs.Tallies.{AreNoLess, HasCause};
+ghost use Rattle.slab_tree.specs.Asking.{AreThere};
 ghost use Rattle.slab_tree.specs.Marking.{ShowsCoverUnlessBare, is_bare};
 ghost use Rattle.slab_tree.specs.Showing.{share_of, shares_of};
 
@@ -31,7 +32,7 @@ pub(crate) fn mark_of(
     cover: &Cover,
     tally: &mut Tally,
 ) -> Result<Mark, AllocError>
-    requires { All (λ part. part.0.0 < length pool.now.columns) cover.now }
+    requires { AreThere pool.now.columns cover.now }
     ensures shows { (m : Mill) (limits : Limits) (decisions : List Decision) → IsPoolCover m limits decisions pool.now.columns cover.now → IfOk result (λ mark. ShowsCoverUnlessBare m limits mark decisions) }
     ensures cause { IfOk result (λ mark. is_bare mark ≡ true → HasCause tally.old tally.new) }
     ensures counters { AreNoLess tally.old tally.new }
@@ -58,7 +59,7 @@ fn mark_over(
     times: &mut [i64],
     wides: &mut Wides,
 ) -> Result<Mark, AllocError>
-    requires within { All (λ part. part.0.0 < length pool.now.columns) parts.now }
+    requires within { AreThere pool.now.columns parts.now }
     requires same { multipliers.now ≡ multipliers_in parts.now }
     requires each { length times.old ≡ length parts.now }
     ensures shows { (m : Mill) (limits : Limits) (decisions : List Decision) → IsPoolCover m limits decisions pool.now.columns parts.now → IfOk result (λ mark. ShowsCoverUnlessBare m limits mark decisions) }
@@ -87,7 +88,7 @@ fn shares_of(
     parts: &[(ColId, Frac)],
     times: &[i64],
 ) -> Result<Vec<Share>, AllocError>
-    requires within { All (λ part. part.0.0 < length pool.now.columns) parts.now }
+    requires within { AreThere pool.now.columns parts.now }
     requires each { length parts.now ≡ length times.now }
     requires range { AreInRange times.now }
     ensures { IfOk result (λ shares. shares.items ≡ shares_of pool.now.columns parts.now times.now) }

@@ -1,25 +1,29 @@
 //! The search: depth first, yes before no, under limits that fall.
 
-ghost use Rattle.std.specs.Prelude.{◌≡◌, ◌≤◌, ◌<◌, IfOk, OnErr, [], true};
+ghost use Rattle.std.specs.Prelude.{◌≡◌, ◌≤◌, ◌<◌, ◌↔◌, IfOk, OnOk, OnErr, IsSome, IsTrue, [], true, false, length};
 ghost use Rattle.mill_model.specs.Decisions.{IsAskAmong};
+ghost use Rattle.mill_model.specs.Paths.{next_branch as branch_after};
 ghost use Rattle.mill_model.specs.Plain.{IsPlainlyRefuted};
 ghost use Rattle.mill_model.specs.Trees.{most_nodes};
 ghost use Rattle.slab_node.specs.Tallies.{AreNoLess, HasCause, HaveCauses};
-ghost use Rattle.slab_node.specs.Turns.{IsUndecided};
+ghost use Rattle.slab_node.specs.Turns.{IsOpenAsk, IsUndecided};
+ghost use Rattle.slab_tree.specs.Asking.{AreThere, extent_of};
 ghost use Rattle.slab_tree.specs.Counts.{AreRaised, IsCountedSplit};
 ghost use Rattle.slab_tree.specs.Marking.{is_bare};
+ghost use Rattle.slab_tree.specs.Standing.{IsOpenPath};
 ghost use Rattle.slab_tree.specs.Searches.{HasBareEnd, IsReady, IsRunning, IsEnded, IsAnswer, IsSameQuestion, limits_of, bare_count};
-ghost use Rattle.slab_tree.specs.Stepping.{IsClosedAtOnce, IsStepped, IsWorkplace, IsSplitUnder};
+ghost use Rattle.slab_tree.specs.Stepping.{IsClosed, IsClosedAtOnce, IsSplitSome, IsSplitUnder, IsStepped, IsWorkplace};
 
 use super::{Ended, Tree};
 use crate::Nodes;
 use crate::bounding::bounded_turn;
+use crate::guide::Guide;
 use crate::path::decide;
 use loss_table::LossTable;
-use mill_model::{Ask, Mark, Mill};
+use mill_model::{Ask, Mark, Mill, Prices};
 use slab_columns::Pool;
 use slab_decide::Decisions;
-use slab_node::{Tally, Turned};
+use slab_node::{Cover, Tally, Turned};
 use std::alloc::{AllocError, Global};
 
 impl Tree {
@@ -95,10 +99,20 @@ impl Tree {
         let _counted = nodes.opened();
         let orders = mill.orders().len() as u16;
         let yard = mill.yard().len() as u16;
+        let mut guide = Guide::new(alloc, orders, yard)?;
         let mut decisions = Decisions::new(alloc, orders, yard)?;
         self.tell(&mut decisions);
         'nodes: loop {
-            if !self.step(alloc, mill, table, &mut decisions, pool, nodes, tally)? {
+            if !self.step(
+                alloc,
+                mill,
+                table,
+                &mut decisions,
+                &mut guide,
+                pool,
+                nodes,
+                tally,
+            )? {
                 return Ok(self.finish());
             }
         }
@@ -111,6 +125,7 @@ impl Tree {
         mill: &Mill,
         table: &LossTable,
         decisions: &mut Decisions,
+        guide: &mut Guide,
         pool: &mut Pool,
         nodes: &mut Nodes,
         tally: &mut Tally,
@@ -118,10 +133,12 @@ impl Tree {
         requires tree { IsRunning mill.now self.old }
         requires room { self.old.opened ≤ nodes.old.limit }
         requires place { IsWorkplace mill.now table.now pool.old decisions.old self.old.path }
+        requires extent { guide.old ≡ extent_of decisions.old }
         ensures ok { IfOk result (IsStepped mill.now nodes.old.limit self.old self.new) }
         ensures err { OnErr result (self.new ≡ self.old) }
         ensures plain { IsPlainlyRefuted mill.now (limits_of self.old) → self.old.path ≡ [] → IfOk result (IsClosedAtOnce self.old self.new) }
         ensures place { IfOk result (λ on. on ≡ true → IsWorkplace mill.now table.now pool.new decisions.new self.new.path) }
+        ensures extent { IfOk result (λ on. on ≡ true → guide.new ≡ extent_of decisions.new) }
         ensures mill { pool.new.mill ≡ mill.now }
         ensures counters { AreNoLess tally.old tally.new }
         ensures causes { HaveCauses (bare_count self.old.nodes) tally.old (bare_count self.new.nodes) tally.new }
@@ -130,16 +147,67 @@ impl Tree {
     {
         let _counted = nodes.opened();
         let limits = self.limits();
-        let mut aim = 0;
-        match bounded_turn(alloc, mill, table, decisions, &mut aim, limits, pool, tally)? {
-            Turned::Refuted(prices) => self.turn_back(prices, decisions),
+        match bounded_turn(alloc, mill, table, decisions, guide, limits, pool, tally)? {
+            Turned::Refuted(prices) => self.close_next(prices, decisions, guide),
             Turned::InBox(plan) => {
                 self.lower(mill, plan);
                 Ok(true)
             }
-            Turned::Spread(_, ask) => self.go_down(ask, Mark::Plain, decisions, nodes),
-            Turned::Bare(ask) => self.go_down(ask, Mark::Bare, decisions, nodes),
+            Turned::Spread(cover, first) => {
+                self.split_next(mill, &cover, first, decisions, guide, pool, nodes)
+            }
+            Turned::Bare(ask) => self.go_down(ask, Mark::Bare, decisions, guide, nodes),
         }
+    }
+
+    // Closes the next node, and turns back to the next branch, whose decisions are then told.
+    fn close_next(
+        &mut self,
+        prices: Prices,
+        decisions: &mut Decisions,
+        guide: &mut Guide,
+    ) -> Result<bool, AllocError>
+        requires { IsOpenPath decisions.old.orders decisions.old.yard self.old.path }
+        ensures ok { OnOk result (IsClosed prices self.old self.new) }
+        ensures on { IfOk result (λ on. IsTrue on ↔ IsSome (branch_after self.old.path)) }
+        ensures err { OnErr result (self.new ≡ self.old) }
+        ensures told { IfOk result (λ on. on ≡ true → decisions.new ≡ record decisions.old { list = self.new.path }) }
+        ensures extent { guide.new ≡ guide.old }
+    {
+        guide.close(&self.path);
+        let on = self.turn_back(prices, decisions)?;
+        guide.turn_back(&self.path);
+        Ok(on)
+    }
+
+    // Splits the next node on a question that the guide chooses, by the cover that a turn gave.
+    fn split_next(
+        &mut self,
+        mill: &Mill,
+        cover: &Cover,
+        first: Ask,
+        decisions: &mut Decisions,
+        guide: &mut Guide,
+        pool: &Pool,
+        nodes: &mut Nodes,
+    ) -> Result<bool, AllocError>
+        requires room { self.old.opened ≤ nodes.old.limit }
+        requires orders { decisions.old.orders ≡ length mill.now.orders }
+        requires yard { decisions.old.yard ≡ length mill.now.yard }
+        requires path { decisions.old.list ≡ self.old.path }
+        requires first { IsOpenAsk mill.now decisions.old.list first }
+        requires cover { AreThere pool.now.columns cover.now }
+        requires extent { guide.old ≡ extent_of decisions.old }
+        ensures ok { IfOk result (IsSplitSome mill.now Mark.Plain nodes.old.limit self.old self.new) }
+        ensures err { OnErr result (self.new ≡ self.old) }
+        ensures told { IfOk result (λ on. on ≡ true → decisions.new ≡ record decisions.old { list = self.new.path }) }
+        ensures extent { guide.new ≡ guide.old }
+        ensures counted { IfOk result (IsCountedSplit false nodes.old nodes.new) }
+        ensures uncounted { OnErr result (nodes.new ≡ nodes.old) }
+    {
+        let _orders = mill.orders();
+        let ask = guide.choose(pool, cover, decisions, first)?;
+        self.go_down(ask, Mark::Plain, decisions, guide, nodes)
     }
 
     // Splits the next node, and goes down to its branch for yes, whose decisions are then told.
@@ -148,6 +216,7 @@ impl Tree {
         ask: Ask,
         mark: Mark,
         decisions: &mut Decisions,
+        guide: &mut Guide,
         nodes: &mut Nodes,
     ) -> Result<bool, AllocError>
         requires room { self.old.opened ≤ nodes.old.limit }
@@ -157,9 +226,11 @@ impl Tree {
         ensures ok { IfOk result (IsSplitUnder ask mark nodes.old.limit self.old self.new) }
         ensures err { OnErr result (self.new ≡ self.old) }
         ensures told { IfOk result (λ on. on ≡ true → decisions.new ≡ record decisions.old { list = self.new.path }) }
+        ensures extent { guide.new ≡ guide.old }
         ensures counted { IfOk result (IsCountedSplit (is_bare mark) nodes.old nodes.new) }
         ensures uncounted { OnErr result (nodes.new ≡ nodes.old) }
     {
+        guide.go_down(&self.path)?;
         let on = self.split(ask, mark, nodes)?;
         if on {
             decide(decisions, ask, true);

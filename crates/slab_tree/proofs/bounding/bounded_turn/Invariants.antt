@@ -6,4 +6,5 @@ abbrev pub invariant-loop : goal.invariant-loop
 invariant-loop l = record {
   counters : AreNoLess l.fn.tally l.tally;
   mill : l.pool.mill ≡ l.mill;
+  extent : l.guide ≡ l.fn.guide;
 }

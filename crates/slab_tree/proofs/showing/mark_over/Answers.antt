@@ -6,7 +6,7 @@ use Rattle.slab_frac.specs.Fraction.{Fraction}
 use Rattle.slab_frac.specs.Scaled.{IsCommonForm}
 use Rattle.slab_node.specs.PoolCovers.{multipliers}
 use Rattle.slab_tree.specs.Showing.{shares_of}
-use Rattle.slab_tree.proofs.Shares.{shows}
+use Rattle.slab_tree.proofs.ShownCovers.{shows}
 use Rattle.slab_tree.proofs.showing.mark_over.Goals as goal
 
 back : (z : ℤ) → unsigned_abs z ≤ 2 ^ 62 → to_z w64 (of_z w64 z) ≡ z

@@ -8,7 +8,7 @@ use Rattle.slab_columns.specs.declared.column.ColId.{ColId}
 use Rattle.slab_frac.specs.Fraction.{Fraction}
 use Rattle.slab_node.specs.PoolCovers.{Cover, column_at}
 use Rattle.slab_tree.specs.Showing.{share_of, shares_of}
-use Rattle.slab_tree.proofs.Shares.{shares_of-push}
+use Rattle.slab_tree.proofs.ShownCovers.{shares_of-push}
 use Rattle.slab_tree.proofs.showing.shares_of.Goals as goal
 
 -- one column more

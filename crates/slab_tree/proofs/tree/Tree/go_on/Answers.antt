@@ -29,6 +29,9 @@ one_of m t run none = omega (arith, run.opened, ap (λ (ns : List Node). length 
 
 -- ---- before the loop
 
+pub returns-in_err-guide-clause-few : goal.returns-in_err-guide-clause-few
+returns-in_err-guide-clause-few c = few_running c.args.mill.now c.args.self.now c.requires.tree
+
 pub returns-in_err-decisions-clause-few : goal.returns-in_err-decisions-clause-few
 returns-in_err-decisions-clause-few c = few_running c.args.mill.now c.args.self.now c.requires.tree
 
@@ -48,6 +51,7 @@ nodes-preserved c =
       room = w.0.room;
       later = later_trans c.args.mill.now c.args.self.now c.nodes.self c.step.new.self c.nodes.invariant.later w.1;
       place = c.in_ok-step.ensures.place c.if-not-branch.false;
+      extent = c.in_ok-step.ensures.extent c.if-not-branch.false;
       limit = c.in_ok-step.ensures.counts.limit ∙ c.nodes.invariant.limit;
       counts = raised_trans c.args.nodes.now c.nodes.nodes c.step.new.nodes c.args.self.now.opened c.nodes.self.opened c.step.new.self.opened (bare_count c.args.self.now.nodes) (bare_count c.nodes.self.nodes) (bare_count c.step.new.self.nodes) c.nodes.invariant.counts c.in_ok-step.ensures.counts;
       counters = no_less_trans c.args.tally.now c.nodes.tally c.step.new.tally c.nodes.invariant.counters c.in_ok-step.ensures.counters;

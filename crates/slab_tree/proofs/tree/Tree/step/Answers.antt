@@ -16,15 +16,15 @@ use Rattle.slab_node.specs.Tallies.{HasCause}
 use Rattle.slab_node.specs.Turns.{IsTurn, HasCover, IsOpenAsk, IsInBox}
 use Rattle.slab_tree.specs.Searches.{limits_of, opening_of, Search}
 use Rattle.slab_tree.specs.Standing.{IsOpenPath}
-use Rattle.slab_tree.specs.Stepping.{IsStepped, IsSplitUnder, IsClosed, IsClosedAtOnce}
+use Rattle.slab_tree.specs.Stepping.{IsStepped, IsSplitUnder, IsSplitSome, IsClosed, IsClosedAtOnce}
 use Rattle.slab_tree.specs.Marking.{HasCoverUnlessBare}
 use Rattle.slab_tree.proofs.Standing.{path_open}
 use Rattle.slab_tree.proofs.Moves.{close_step, close_root, split_step, lower_step}
-use Rattle.slab_tree.proofs.Gains.{close_causes, split_causes, close_counts, split_counts}
+use Rattle.slab_tree.proofs.Gains.{close_causes, split_causes, split_some_causes, close_counts, split_counts, split_some_counts}
 use Rattle.slab_tree.proofs.tree.Tree.step.Goals as goal
 
-pub turn_back-requires : goal.turn_back-requires
-turn_back-requires c =
+pub close_next-requires : goal.close_next-requires
+close_next-requires c =
     rw (c.requires.place.orders, c.requires.place.yard)
     (path_open c.args.mill.now (HasCoverUnlessBare c.args.mill.now (opening_of c.args.self.now)) (limits_of c.args.self.now) c.args.self.now.path c.args.self.now.nodes c.requires.tree.stands)
 
@@ -42,19 +42,19 @@ pub returns-in-Refuted-clause-ok : goal.returns-in-Refuted-clause-ok
 returns-in-Refuted-clause-ok c =
     let t : Refutes c.args.mill.now (limits_of c.args.self.now) c.args.self.now.path c.in-Refuted.prices =
     turn_at c.args.mill.now c.limits-limits.result (limits_of c.args.self.now) c.args.decisions.now.list c.args.self.now.path c.args.tally.now c.bounded_turn.new.tally c.in_ok-prices.field-0 (Refuted c.in-Refuted.prices) c.limits-limits.ensures c.requires.place.list c.in-Refuted.is c.in_ok-prices.ensures.turned in
-    ok_both c.turn_back.result (IsClosed c.in-Refuted.prices c.args.self.now c.turn_back.new.self) (λ on. IsTrue on ↔ IsSome (next_branch c.args.self.now.path)) (IsStepped c.args.mill.now c.args.nodes.now.limit c.args.self.now c.turn_back.new.self) c.turn_back.ensures.ok c.turn_back.ensures.on
-    (λ on closed is. close_step c.args.mill.now c.args.nodes.now.limit c.args.self.now c.turn_back.new.self c.requires.tree c.requires.room c.in-Refuted.prices t on is closed)
+    ok_both c.close_next.result (IsClosed c.in-Refuted.prices c.args.self.now c.close_next.new.self) (λ on. IsTrue on ↔ IsSome (next_branch c.args.self.now.path)) (IsStepped c.args.mill.now c.args.nodes.now.limit c.args.self.now c.close_next.new.self) c.close_next.ensures.ok c.close_next.ensures.on
+    (λ on closed is. close_step c.args.mill.now c.args.nodes.now.limit c.args.self.now c.close_next.new.self c.requires.tree c.requires.room c.in-Refuted.prices t on is closed)
 
 pub returns-in-Refuted-clause-plain : goal.returns-in-Refuted-clause-plain
 returns-in-Refuted-clause-plain c = λ _ root.
-    ok_both c.turn_back.result (IsClosed c.in-Refuted.prices c.args.self.now c.turn_back.new.self) (λ on. IsTrue on ↔ IsSome (next_branch c.args.self.now.path)) (IsClosedAtOnce c.args.self.now c.turn_back.new.self) c.turn_back.ensures.ok c.turn_back.ensures.on
-    (λ on closed is. close_root c.args.mill.now c.args.nodes.now.limit c.args.self.now c.turn_back.new.self c.requires.tree c.requires.room c.in-Refuted.prices on root is closed)
+    ok_both c.close_next.result (IsClosed c.in-Refuted.prices c.args.self.now c.close_next.new.self) (λ on. IsTrue on ↔ IsSome (next_branch c.args.self.now.path)) (IsClosedAtOnce c.args.self.now c.close_next.new.self) c.close_next.ensures.ok c.close_next.ensures.on
+    (λ on closed is. close_root c.args.mill.now c.args.nodes.now.limit c.args.self.now c.close_next.new.self c.requires.tree c.requires.room c.in-Refuted.prices on root is closed)
 
 pub returns-in-Refuted-clause-causes : goal.returns-in-Refuted-clause-causes
-returns-in-Refuted-clause-causes c = close_causes c.args.self.now c.turn_back.new.self c.args.tally.now c.bounded_turn.new.tally c.in_ok-prices.ensures.counters c.turn_back.result c.in-Refuted.prices c.turn_back.ensures.ok c.turn_back.ensures.err
+returns-in-Refuted-clause-causes c = close_causes c.args.self.now c.close_next.new.self c.args.tally.now c.bounded_turn.new.tally c.in_ok-prices.ensures.counters c.close_next.result c.in-Refuted.prices c.close_next.ensures.ok c.close_next.ensures.err
 
 pub returns-in-Refuted-clause-counts : goal.returns-in-Refuted-clause-counts
-returns-in-Refuted-clause-counts c = close_counts c.args.nodes.now c.opened-counted.ensures.last c.opened-counted.ensures.bare c.args.self.now c.turn_back.new.self c.turn_back.result c.in-Refuted.prices c.turn_back.ensures.ok c.turn_back.ensures.err
+returns-in-Refuted-clause-counts c = close_counts c.args.nodes.now c.opened-counted.ensures.last c.opened-counted.ensures.bare c.args.self.now c.close_next.new.self c.close_next.result c.in-Refuted.prices c.close_next.ensures.ok c.close_next.ensures.err
 
 -- ---- a plan
 
@@ -66,42 +66,46 @@ returns-in-InBox-clause-ok c =
 
 -- ---- a split
 
+pub split_next-requires-clause-first : goal.split_next-requires-clause-first
+split_next-requires-clause-first c =
+    (turn_at c.args.mill.now c.limits-limits.result c.limits-limits.result c.args.decisions.now.list c.args.decisions.now.list c.args.tally.now c.bounded_turn.new.tally c.in_ok-prices.field-0 (Spread c.in-Spread.cover c.in-Spread.first) refl refl c.in-Spread.is c.in_ok-prices.ensures.turned).1
+
 pub returns-in-Spread-clause-ok : goal.returns-in-Spread-clause-ok
 returns-in-Spread-clause-ok c =
-    let t : HasCover c.args.mill.now (limits_of c.args.self.now) c.args.self.now.path × IsOpenAsk c.args.mill.now c.args.self.now.path c.in-Spread.ask =
-    turn_at c.args.mill.now c.limits-limits.result (limits_of c.args.self.now) c.args.decisions.now.list c.args.self.now.path c.args.tally.now c.bounded_turn.new.tally c.in_ok-prices.field-0 (Spread c.in-Spread.field-0 c.in-Spread.ask) c.limits-limits.ensures c.requires.place.list c.in-Spread.is c.in_ok-prices.ensures.turned in
-    IfOk-weaker c.go_down.result (IsSplitUnder c.in-Spread.ask Plain c.args.nodes.now.limit c.args.self.now c.go_down.new.self) (IsStepped c.args.mill.now c.args.nodes.now.limit c.args.self.now c.go_down.new.self)
-    (split_step c.args.mill.now c.args.nodes.now.limit c.args.self.now c.go_down.new.self c.requires.tree c.requires.room c.in-Spread.ask Plain t.1 (λ _. t.0)) c.go_down.ensures.ok
+    let t : HasCover c.args.mill.now (limits_of c.args.self.now) c.args.self.now.path × IsOpenAsk c.args.mill.now c.args.self.now.path c.in-Spread.first =
+    turn_at c.args.mill.now c.limits-limits.result (limits_of c.args.self.now) c.args.decisions.now.list c.args.self.now.path c.args.tally.now c.bounded_turn.new.tally c.in_ok-prices.field-0 (Spread c.in-Spread.cover c.in-Spread.first) c.limits-limits.ensures c.requires.place.list c.in-Spread.is c.in_ok-prices.ensures.turned in
+    IfOk-weaker c.split_next.result (IsSplitSome c.args.mill.now Plain c.args.nodes.now.limit c.args.self.now c.split_next.new.self) (IsStepped c.args.mill.now c.args.nodes.now.limit c.args.self.now c.split_next.new.self)
+    (λ on s. split_step c.args.mill.now c.args.nodes.now.limit c.args.self.now c.split_next.new.self c.requires.tree c.requires.room s.ask Plain s.asks (λ _. t.0) on s.split) c.split_next.ensures.ok
 
 pub returns-in-Spread-clause-causes : goal.returns-in-Spread-clause-causes
 returns-in-Spread-clause-causes c =
-    split_causes c.args.self.now c.go_down.new.self c.args.tally.now c.bounded_turn.new.tally c.in_ok-prices.ensures.counters c.go_down.result c.in-Spread.ask Plain c.args.nodes.now.limit (λ e. absurd (never e)) c.go_down.ensures.ok c.go_down.ensures.err
+    split_some_causes c.args.mill.now c.args.self.now c.split_next.new.self c.args.tally.now c.bounded_turn.new.tally c.in_ok-prices.ensures.counters c.split_next.result Plain c.args.nodes.now.limit (λ e. absurd (never e)) c.split_next.ensures.ok c.split_next.ensures.err
   where
     never : false ≡ true → ⊥
     never e = cc
 
 pub returns-in-Spread-clause-counts : goal.returns-in-Spread-clause-counts
 returns-in-Spread-clause-counts c =
-    split_counts c.args.nodes.now c.opened-counted.ensures.last c.opened-counted.ensures.bare c.args.self.now c.go_down.new.self c.go_down.result c.go_down.new.nodes c.in-Spread.ask Plain c.args.nodes.now.limit c.go_down.ensures.ok c.go_down.ensures.err c.go_down.ensures.counted c.go_down.ensures.uncounted
+    split_some_counts c.args.nodes.now c.opened-counted.ensures.last c.opened-counted.ensures.bare c.args.mill.now c.args.self.now c.split_next.new.self c.split_next.result c.split_next.new.nodes Plain c.args.nodes.now.limit c.split_next.ensures.ok c.split_next.ensures.err c.split_next.ensures.counted c.split_next.ensures.uncounted
 
 -- ---- a bare split
 
-pub returns-clause-ok : goal.returns-clause-ok
-returns-clause-ok c =
+pub returns-in-Bare-clause-ok : goal.returns-in-Bare-clause-ok
+returns-in-Bare-clause-ok c =
     let t : HasCause c.args.tally.now c.bounded_turn.new.tally × IsOpenAsk c.args.mill.now c.args.self.now.path c.in-Bare.ask =
     turn_at c.args.mill.now c.limits-limits.result (limits_of c.args.self.now) c.args.decisions.now.list c.args.self.now.path c.args.tally.now c.bounded_turn.new.tally c.in_ok-prices.field-0 (BareTurn c.in-Bare.ask) c.limits-limits.ensures c.requires.place.list c.in-Bare.is c.in_ok-prices.ensures.turned in
-    IfOk-weaker c.go_down-in-Bare.result (IsSplitUnder c.in-Bare.ask Bare c.args.nodes.now.limit c.args.self.now c.go_down-in-Bare.new.self) (IsStepped c.args.mill.now c.args.nodes.now.limit c.args.self.now c.go_down-in-Bare.new.self)
-    (split_step c.args.mill.now c.args.nodes.now.limit c.args.self.now c.go_down-in-Bare.new.self c.requires.tree c.requires.room c.in-Bare.ask Bare t.1 (λ e. absurd (never e))) c.go_down-in-Bare.ensures.ok
+    IfOk-weaker c.go_down.result (IsSplitUnder c.in-Bare.ask Bare c.args.nodes.now.limit c.args.self.now c.go_down.new.self) (IsStepped c.args.mill.now c.args.nodes.now.limit c.args.self.now c.go_down.new.self)
+    (split_step c.args.mill.now c.args.nodes.now.limit c.args.self.now c.go_down.new.self c.requires.tree c.requires.room c.in-Bare.ask Bare t.1 (λ e. absurd (never e))) c.go_down.ensures.ok
   where
     never : true ≡ false → ⊥
     never e = cc
 
-pub returns-clause-causes : goal.returns-clause-causes
-returns-clause-causes c =
+pub returns-in-Bare-clause-causes : goal.returns-in-Bare-clause-causes
+returns-in-Bare-clause-causes c =
     let t : HasCause c.args.tally.now c.bounded_turn.new.tally × IsOpenAsk c.args.mill.now c.args.self.now.path c.in-Bare.ask =
     turn_at c.args.mill.now c.limits-limits.result (limits_of c.args.self.now) c.args.decisions.now.list c.args.self.now.path c.args.tally.now c.bounded_turn.new.tally c.in_ok-prices.field-0 (BareTurn c.in-Bare.ask) c.limits-limits.ensures c.requires.place.list c.in-Bare.is c.in_ok-prices.ensures.turned in
-    split_causes c.args.self.now c.go_down-in-Bare.new.self c.args.tally.now c.bounded_turn.new.tally c.in_ok-prices.ensures.counters c.go_down-in-Bare.result c.in-Bare.ask Bare c.args.nodes.now.limit (λ _. t.0) c.go_down-in-Bare.ensures.ok c.go_down-in-Bare.ensures.err
+    split_causes c.args.self.now c.go_down.new.self c.args.tally.now c.bounded_turn.new.tally c.in_ok-prices.ensures.counters c.go_down.result c.in-Bare.ask Bare c.args.nodes.now.limit (λ _. t.0) c.go_down.ensures.ok c.go_down.ensures.err
 
-pub returns-clause-counts : goal.returns-clause-counts
-returns-clause-counts c =
-    split_counts c.args.nodes.now c.opened-counted.ensures.last c.opened-counted.ensures.bare c.args.self.now c.go_down-in-Bare.new.self c.go_down-in-Bare.result c.go_down-in-Bare.new.nodes c.in-Bare.ask Bare c.args.nodes.now.limit c.go_down-in-Bare.ensures.ok c.go_down-in-Bare.ensures.err c.go_down-in-Bare.ensures.counted c.go_down-in-Bare.ensures.uncounted
+pub returns-in-Bare-clause-counts : goal.returns-in-Bare-clause-counts
+returns-in-Bare-clause-counts c =
+    split_counts c.args.nodes.now c.opened-counted.ensures.last c.opened-counted.ensures.bare c.args.self.now c.go_down.new.self c.go_down.result c.go_down.new.nodes c.in-Bare.ask Bare c.args.nodes.now.limit c.go_down.ensures.ok c.go_down.ensures.err c.go_down.ensures.counted c.go_down.ensures.uncounted
