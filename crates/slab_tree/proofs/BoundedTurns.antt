@@ -12,8 +12,7 @@ use Rattle.slab_node.specs.Tallies.{AreNoLess}
 use Rattle.slab_node.specs.Turns.{IsTurn, IsRefuted, IfSpread}
 use Rattle.slab_node.specs.PoolCovers.{IsPoolCover}
 use Rattle.mill_model.specs.Columns.{Column}
-use Rattle.slab_tree.specs.Asking.{AreThere}
-use Rattle.slab_tree.proofs.Limits.{box_greater, cover_greater}
+use Rattle.slab_tree.proofs.Limits.{box_greater, cover_greater, pool_cover_greater}
 use Rattle.slab_tree.proofs.Tallies.{cause_later}
 
 abbrev pub IsntRefuted : Turned → Type 0
@@ -38,9 +37,9 @@ refuted_or_not (InBox p) isnt w = w
 refuted_or_not (Spread cover ask) isnt w = w
 refuted_or_not (Bare ask) isnt w = w
 
--- a cover by columns of a pool names columns that there are
-pub spread_there : (m : Mill) (limits : Limits) (path : List Decision) (columns : List Column) (t : Turned) → IfSpread t (IsPoolCover m limits path columns) → IfSpread t (AreThere columns)
-spread_there m limits path columns (Refuted p) h = tt
-spread_there m limits path columns (InBox p) h = tt
-spread_there m limits path columns (Spread cover ask) h = h.within
-spread_there m limits path columns (Bare ask) h = tt
+-- its cover is one for greater limits
+pub spread_greater : (m : Mill) (smaller limits : Limits) (path : List Decision) (columns : List Column) (t : Turned) → AreSmaller smaller limits → IfSpread t (IsPoolCover m smaller path columns) → IfSpread t (IsPoolCover m limits path columns)
+spread_greater m smaller limits path columns (Refuted p) fall h = tt
+spread_greater m smaller limits path columns (InBox p) fall h = tt
+spread_greater m smaller limits path columns (Spread cover ask) fall h = pool_cover_greater m smaller limits path columns cover fall h
+spread_greater m smaller limits path columns (Bare ask) fall h = tt

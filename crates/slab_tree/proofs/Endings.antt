@@ -22,12 +22,12 @@ use Rattle.slab_tree.specs.declared.tree.Phase.{Phase}
 use Rattle.slab_tree.specs.declared.tree.Phase.TheVariants.{Running, Done, Refused}
 use Rattle.slab_tree.specs.declared.tree.Ended.{Ended}
 use Rattle.slab_tree.specs.declared.tree.Ended.TheVariants.{Least, NoPlan, Budget}
-use Rattle.slab_tree.specs.Marking.{MarkRule, HasCoverUnlessBare, bare_marks, is_bare}
+use Rattle.slab_tree.specs.Marking.{MarkRule, HasCoverUnlessBare, HoldsCover, bare_marks}
 use Rattle.slab_tree.specs.Standing.{IsSplit, IsWhole, waiting}
 use Rattle.slab_tree.specs.Unfinished.{Outlined, IsUnfinished, IsCutTree, ask_of, marks_in}
 use Rattle.slab_tree.specs.Searches.{Search, limits_of, opening_of, loss_below, IsBest, IsRunning, IsFinished, IsRefused, HasLimitsBelow, HasBareEnd, IsLeast, KeepsBest, EndsLeast, EndsNoPlan, EndsBudget, IsEnded, IsAnswer, IsSameQuestion, outline_of, bare_count}
 use Rattle.slab_tree.specs.Stepping.{IsLater, IsComplete, IsOver, IsFinish}
-use Rattle.slab_tree.proofs.Limits.{not_below}
+use Rattle.slab_tree.proofs.Limits.{holds_cover, not_below}
 use Rattle.slab_tree.proofs.Outlines.{IsOutlineAt, opens, outline_count, few_outlined, open_tree_of, graft}
 use Rattle.slab_tree.proofs.Standing.{lean}
 
@@ -42,19 +42,16 @@ an_end : (m : Mill) (Rule : MarkRule) (path : List Decision) → IsUnfinished m 
 an_end m Rule path = record { fresh = tt; splits = tt }
 
 pub few_running : (m : Mill) (t : Search) → IsRunning m t → t.opened < most_nodes m
-few_running m t run = omega (arith, run.opened, few_outlined m (HasCoverUnlessBare m (opening_of t)) (limits_of t) t.path t.nodes (End tt) run.stands (an_end m (HasCoverUnlessBare m (opening_of t)) t.path))
+few_running m t run = omega (arith, run.opened, few_outlined m (HoldsCover m (opening_of t)) (limits_of t) t.path t.nodes (End tt) run.stands (an_end m (HoldsCover m (opening_of t)) t.path))
 
 few_whole : (m : Mill) (Rule : MarkRule) (limits : Limits) (nodes : List Node) → IsWhole m Rule limits nodes → length nodes < most_nodes m
 few_whole m Rule limits nodes whole = omega (arith, ap length whole.nodes_are, length-listing Closed (λ (mark : Mark) ask. Branched ask mark) whole.tree, nodes_most m _ whole.tree whole.done.refutes)
 
 few_refused : (m : Mill) (limit : ℕ) (t : Search) → IsRefused m limit t → t.opened + 2 < most_nodes m
 few_refused m limit t r =
-    let split : IsUnfinished m (HasCoverUnlessBare m (opening_of t)) (Split Bare r.ask (End tt) (End tt)) t.path =
-    graft m (HasCoverUnlessBare m (opening_of t)) Bare r.ask (End tt) (End tt) t.path (record { opened = r.asks; marked = λ e. absurd (never e) }) (an_end m (HasCoverUnlessBare m (opening_of t)) ((r.ask, true) ∷ t.path)) (an_end m (HasCoverUnlessBare m (opening_of t)) ((r.ask, false) ∷ t.path)) in
-    omega (arith, r.opened, few_outlined m (HasCoverUnlessBare m (opening_of t)) (limits_of t) t.path t.nodes (Split Bare r.ask (End tt) (End tt)) r.stands split)
-  where
-    never : true ≡ false → ⊥
-    never e = cc
+    let split : IsUnfinished m (HoldsCover m (opening_of t)) (Split Bare r.ask (End tt) (End tt)) t.path =
+    graft m (HoldsCover m (opening_of t)) Bare r.ask (End tt) (End tt) t.path (record { opened = r.asks; marked = tt }) (an_end m (HoldsCover m (opening_of t)) ((r.ask, true) ∷ t.path)) (an_end m (HoldsCover m (opening_of t)) ((r.ask, false) ∷ t.path)) in
+    omega (arith, r.opened, few_outlined m (HoldsCover m (opening_of t)) (limits_of t) t.path t.nodes (Split Bare r.ask (End tt) (End tt)) r.stands split)
 
 -- ---- the answer
 
@@ -81,7 +78,7 @@ module _ (m : Mill) (limit : ℕ) (first old new : Search) (later : IsLater m fi
       record {
         start = subst (λ (c : Option ℤ). IsStart m c p) later.count best.0;
         least = λ q legal count. not_below (sums_of m q).loss (sums_of m p).loss
-            (λ within. nothing_within m (HasCoverUnlessBare m (opening_of old)) (limits_of old) old.nodes done.tree.whole q legal
+            (λ within. nothing_within m (HoldsCover m (opening_of old)) (limits_of old) old.nodes done.tree.whole q legal
             (record { loss = subst (λ (a : Option ℤ). AtMost (Some (pos (sums_of m q).loss)) a) (sym best.1) within; count = subst (λ (c : Option ℤ). AtMost (Some (pos (sums_of m q).count)) c) (sym later.count) count }));
       }
 
@@ -111,7 +108,7 @@ module _ (m : Mill) (limit : ℕ) (first old new : Search) (later : IsLater m fi
   finished e done None is h =
       let missing : old.loss ≡ None = subst (λ (o : Option Plan). IsBest m old.count old.loss o) is done.search.best in
       subst (λ (x : Ended). IsEnded m limit first new x) (sym h.0) (subst (λ (t : Search). EndsNoPlan m first t) (sym h.1) (record {
-        none = λ p legal count. nothing_within m (HasCoverUnlessBare m (opening_of old)) (limits_of old) old.nodes done.tree.whole p legal
+        none = λ p legal count. nothing_within m (HoldsCover m (opening_of old)) (limits_of old) old.nodes done.tree.whole p legal
             (record { loss = subst (λ (a : Option ℤ). AtMost (Some (pos (sums_of m p).loss)) a) (sym missing) tt; count = subst (λ (c : Option ℤ). AtMost (Some (pos (sums_of m p).count)) c) (sym later.count) count });
         tree = done.tree;
         loss = missing;
@@ -145,7 +142,7 @@ module _ (m : Mill) (limit : ℕ) (first old new : Search) (later : IsLater m fi
       record { count = ap (λ (t : Search). t.count) h.1; opening = ap (λ (t : Search). t.opening) h.1; nodes = ap (λ (t : Search). t.nodes) h.1; opened = ap (λ (t : Search). t.opened) h.1; phase = ap (λ (t : Search). t.phase) h.1 }
 
   few_over : IsOver m limit old → old.opened < most_nodes m
-  few_over (inl done) = omega (arith, done.tree.opened, few_whole m (HasCoverUnlessBare m (opening_of old)) (limits_of old) old.nodes done.tree.whole)
+  few_over (inl done) = omega (arith, done.tree.opened, few_whole m (HoldsCover m (opening_of old)) (limits_of old) old.nodes done.tree.whole)
   few_over (inr refused) = omega (arith, few_refused m limit old refused)
 
   within_over : IsOver m limit old → old.opened ≤ limit
@@ -173,22 +170,22 @@ done_answers old new done e finish = by old.best (subst (λ (f : Phase). IsFinis
 
 -- ---- the unfinished tree
 
-covered_splits : {E : Type 0} (m : Mill) (limits : Limits) (t : Tree Mark E) (path : List Decision) → EverySplit (IsSplit m (HasCoverUnlessBare m limits)) t path → EverySplit (λ mark _ decisions. HasCoverUnlessBare m limits mark decisions) t path
+covered_splits : {E : Type 0} (m : Mill) (limits : Limits) (t : Tree Mark E) (path : List Decision) → EverySplit (IsSplit m (HoldsCover m limits)) t path → EverySplit (λ mark _ decisions. HasCoverUnlessBare m limits mark decisions) t path
 covered_splits m limits (End e) path h = tt
-covered_splits m limits (Split mark ask left right) path h = (h.0.marked, covered_splits m limits left ((ask, true) ∷ path) h.1, covered_splits m limits right ((ask, false) ∷ path) h.2)
+covered_splits m limits (Split mark ask left right) path h = (holds_cover m limits mark path h.0.marked, covered_splits m limits left ((ask, true) ∷ path) h.1, covered_splits m limits right ((ask, false) ∷ path) h.2)
 
 pub cut_tree : (m : Mill) (limit : ℕ) (t : Search) (r : IsRefused m limit t) → IsCutTree m (opening_of t) limit (bare_count t.nodes) r.bare (outline_of t)
 cut_tree m limit t r =
     let rest : t.opened - length t.nodes ≡ suc (waiting t.path) = omega (arith, r.opened) in
     let ends : outline_of t ≡ map ask_of t.nodes ++ (None ∷ replicate (waiting t.path) None) = ap (λ (n : ℕ). map ask_of t.nodes ++ replicate n None) rest in
-    let o : IsOutlineAt m (HasCoverUnlessBare m (opening_of t)) t.path t.nodes (End tt) = opens m (HasCoverUnlessBare m (opening_of t)) (limits_of t) t.path t.nodes (End tt) r.stands (an_end m (HasCoverUnlessBare m (opening_of t)) t.path) in
+    let o : IsOutlineAt m (HoldsCover m (opening_of t)) t.path t.nodes (End tt) = opens m (HoldsCover m (opening_of t)) (limits_of t) t.path t.nodes (End tt) r.stands (an_end m (HoldsCover m (opening_of t)) t.path) in
     let list_is : outline_of t ≡ outline o.tree = ends ∙ sym o.outline_is in
-    let count : tree_nodes o.tree ≡ t.opened = omega (arith, r.opened, outline_count m (HasCoverUnlessBare m (opening_of t)) t.path t.nodes (End tt) o) in
+    let count : tree_nodes o.tree ≡ t.opened = omega (arith, r.opened, outline_count m (HoldsCover m (opening_of t)) t.path t.nodes (End tt) o) in
     record {
       tree = o.tree;
       list_is = list_is;
-      open_tree = subst (λ (l : List (Option Ask)). IsOpenTree m [] l) (sym list_is) (open_tree_of m (HasCoverUnlessBare m (opening_of t)) o.tree o.unfinished);
-      lean = lean m (HasCoverUnlessBare m (opening_of t)) o.tree [] o.unfinished.splits;
+      open_tree = subst (λ (l : List (Option Ask)). IsOpenTree m [] l) (sym list_is) (open_tree_of m (HoldsCover m (opening_of t)) o.tree o.unfinished);
+      lean = lean m (HoldsCover m (opening_of t)) o.tree [] o.unfinished.splits;
       within = omega (arith, r.within);
       full = omega (arith, r.full);
       covered = covered_splits m (opening_of t) o.tree [] o.unfinished.splits;

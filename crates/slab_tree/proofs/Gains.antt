@@ -6,7 +6,6 @@ use Rattle.std.proofs.lemmas.List.Sums.{sum_by_push}
 use Rattle.slab_counter.specs.Counter.{last_count}
 use Rattle.mill_model.specs.declared.ask.Ask.{Ask}
 use Rattle.mill_model.specs.declared.mark.Mark.{Mark}
-use Rattle.mill_model.specs.Mill.{Mill}
 use Rattle.mill_model.specs.Decisions.{Decision}
 use Rattle.mill_model.specs.Paths.{next_branch}
 use Rattle.mill_model.specs.Prices.{Prices}
@@ -18,7 +17,7 @@ use Rattle.slab_tree.specs.Counts.{Counts, AreRaised, IsCountedSplit, raised_by}
 use Rattle.slab_tree.specs.Marking.{is_bare, bare_marks}
 use Rattle.slab_tree.specs.Unfinished.{marks_in}
 use Rattle.slab_tree.specs.Searches.{Search, bare_count}
-use Rattle.slab_tree.specs.Stepping.{after_leaf, IsClosed, IsSplitUnder, IsSplitSome}
+use Rattle.slab_tree.specs.Stepping.{after_leaf, IsClosed, IsSplitUnder}
 use Rattle.slab_tree.proofs.Counts.{raised_none}
 use Rattle.slab_tree.proofs.Tallies.{causes_same, causes_more}
 
@@ -43,7 +42,7 @@ closed_opened : (p : Prices) (old new : Search) (next : Option (List Decision)) 
 closed_opened p old new None h = ap (λ (t : Search). t.opened) h
 closed_opened p old new (Some b) h = ap (λ (t : Search). t.opened) h
 
-branched_bares : (ask : Ask) (mark : Mark) (limit : ℕ) (old new : Search) → IsSplitUnder ask mark limit old new true → bare_count new.nodes ≡ bare_count old.nodes + cond (is_bare mark) 1 0
+pub branched_bares : (ask : Ask) (mark : Mark) (limit : ℕ) (old new : Search) → IsSplitUnder ask mark limit old new true → bare_count new.nodes ≡ bare_count old.nodes + cond (is_bare mark) 1 0
 branched_bares ask mark limit old new h = ap (λ (t : Search). bare_count t.nodes) h.1 ∙ bare_branched old.nodes ask mark
 
 -- ---- their causes
@@ -64,10 +63,6 @@ module _ (old new : Search) (s t : Tally) (rises : AreNoLess s t) where
       by : (bare : Bool) → (bare ≡ true → HasCause s t) → bare_count new.nodes ≡ bare_count old.nodes + cond bare 1 0 → HaveCauses (bare_count old.nodes) s (bare_count new.nodes) t
       by false cause e = causes_same (bare_count old.nodes) (bare_count new.nodes) s t (omega arith) rises
       by true cause e = subst (λ (n : ℕ). HaveCauses (bare_count old.nodes) s n t) (sym e) (causes_more (bare_count old.nodes) s t rises (cause refl))
-
-pub split_some_causes : {E : Type 0} (m : Mill) (old new : Search) (s t : Tally) → AreNoLess s t → (r : Result Bool E) (mark : Mark) (limit : ℕ) → (is_bare mark ≡ true → HasCause s t) → IfOk r (IsSplitSome m mark limit old new) → OnErr r (new ≡ old) → HaveCauses (bare_count old.nodes) s (bare_count new.nodes) t
-split_some_causes {E} m old new s t rises (Ok on) mark limit cause h same = split_causes old new s t rises {E = E} (Ok on) h.ask mark limit cause h.split same
-split_some_causes m old new s t rises (Err e) mark limit cause h same = same_causes old new s t rises (ap (λ (x : Search). x.nodes) same)
 
 -- ---- the counts
 
@@ -99,8 +94,3 @@ module _ (n : Counts) (small : n.opened ≤ last_count) (fewer : n.bare ≤ n.op
     where
       gain : (a b k : ℕ) → b ≡ a + k → k ≡ b - a
       gain a b k e = omega arith
-
-pub split_some_counts : {E : Type 0} (n : Counts) → n.opened ≤ last_count → n.bare ≤ n.opened → (m : Mill) (old new : Search) (r : Result Bool E) (after : Counts) (mark : Mark) (limit : ℕ) → IfOk r (IsSplitSome m mark limit old new) → OnErr r (new ≡ old) → IfOk r (IsCountedSplit (is_bare mark) n after) → OnErr r (after ≡ n)
-    → AreRaised n after old.opened new.opened (bare_count old.nodes) (bare_count new.nodes)
-split_some_counts {E} n small fewer m old new (Ok on) after mark limit h e k f = split_counts n small fewer old new {E = E} (Ok on) after h.ask mark limit h.split e k f
-split_some_counts n small fewer m old new (Err x) after mark limit h e k f = subst (λ (a : Counts). AreRaised n a old.opened new.opened (bare_count old.nodes) (bare_count new.nodes)) (sym f) (same_counts n small fewer old new (ap (λ (t : Search). t.opened) e) (ap (λ (t : Search). t.nodes) e))

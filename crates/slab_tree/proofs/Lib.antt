@@ -14,3 +14,5 @@ pub mod BareMarks
 pub mod ShownCovers
 pub mod Remainders
 pub mod Rewriting
+pub mod Numbering
+pub mod Finds

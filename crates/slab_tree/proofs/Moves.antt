@@ -12,15 +12,16 @@ use Rattle.mill_model.specs.Limits.{AtMost, AreSmaller, number_of}
 use Rattle.mill_model.specs.Decisions.{Decision}
 use Rattle.mill_model.specs.Paths.{next_branch}
 use Rattle.slab_master.specs.Given.{IsSmall}
-use Rattle.slab_node.specs.Turns.{IsOpenAsk, HasCover, IsInBox}
+use Rattle.slab_node.specs.Turns.{IsOpenAsk}
+use Rattle.slab_tree.specs.FoundPlans.{IsFoundPlan}
 use Rattle.slab_tree.specs.declared.node.Node.{Node}
 use Rattle.slab_tree.specs.declared.node.Node.TheVariants.{Closed, Branched}
 use Rattle.slab_tree.specs.declared.tree.Phase.TheVariants.{Done, Refused}
-use Rattle.slab_tree.specs.Marking.{is_bare, HasCoverUnlessBare}
+use Rattle.slab_tree.specs.Marking.{is_bare, HoldsCover}
 use Rattle.slab_tree.specs.Standing.{Stands, IsWhole, GoesOn, waiting}
 use Rattle.slab_tree.specs.Searches.{Search, limits_of, opening_of, loss_below, IsRunning, HasLimitsBelow}
 use Rattle.slab_tree.specs.Stepping.{after_leaf, IsClosed, IsBranched, fall_room, IsLater, GoesOnFrom, IsComplete, IsOver, IsStepped, IsSplitUnder, IsSteppedBy, IsClosedAtOnce}
-use Rattle.slab_tree.proofs.Limits.{at_most_refl, at_most_trans, cover_greater}
+use Rattle.slab_tree.proofs.Limits.{at_most_refl, at_most_trans, holds_greater, holds_cover}
 use Rattle.slab_tree.proofs.Standing.{closes_leaf, splits_at, waiting_next, none_waits, stands_smaller}
 
 same_later : (m : Mill) (old new : Search) → new.count ≡ old.count → new.opening ≡ old.opening → new.loss ≡ old.loss → new.best ≡ old.best → IsLater m old new
@@ -45,9 +46,9 @@ later_trans m a b c h k = record { count = k.count ∙ h.count; opening = k.open
 
 module _ (m : Mill) (limit : ℕ) (old new : Search) (run : IsRunning m old) (room : old.opened ≤ limit) where
   closed_step : (p : Prices) → Refutes m (limits_of old) old.path p → (next : Option (List Decision)) → next_branch old.path ≡ next → after_leaf next (record old { nodes = old.nodes ++ Closed p ∷ [] }) new → IsSteppedBy next m limit old new
-  closed_step p refutes next e h = by next e h (subst (λ b. GoesOn m (HasCoverUnlessBare m (opening_of old)) (limits_of old) b (old.nodes ++ Closed p ∷ [])) e (closes_leaf m (HasCoverUnlessBare m (opening_of old)) (limits_of old) old.path old.nodes p run.stands refutes))
+  closed_step p refutes next e h = by next e h (subst (λ b. GoesOn m (HoldsCover m (opening_of old)) (limits_of old) b (old.nodes ++ Closed p ∷ [])) e (closes_leaf m (HoldsCover m (opening_of old)) (limits_of old) old.path old.nodes p run.stands refutes))
     where
-      by : (next : Option (List Decision)) → next_branch old.path ≡ next → after_leaf next (record old { nodes = old.nodes ++ Closed p ∷ [] }) new → GoesOn m (HasCoverUnlessBare m (opening_of old)) (limits_of old) next (old.nodes ++ Closed p ∷ []) → IsSteppedBy next m limit old new
+      by : (next : Option (List Decision)) → next_branch old.path ≡ next → after_leaf next (record old { nodes = old.nodes ++ Closed p ∷ [] }) new → GoesOn m (HoldsCover m (opening_of old)) (limits_of old) next (old.nodes ++ Closed p ∷ []) → IsSteppedBy next m limit old new
       by None e h goes =
           subst (λ (t : Search). IsComplete m limit t × IsLater m old t) (sym h) (
             record {
@@ -106,14 +107,14 @@ module _ (m : Mill) (limit : ℕ) (old new : Search) (run : IsRunning m old) (ro
           nothing w = cc
       over false f = refl
 
-  branch_step : (ask : Ask) (mark : Mark) → IsOpenAsk m old.path ask → (is_bare mark ≡ false → HasCover m (limits_of old) old.path) → old.opened + 2 ≤ limit → IsBranched ask mark (record old { opened = old.opened + 2 }) new → GoesOnFrom m limit old new × IsLater m old new
+  branch_step : (ask : Ask) (mark : Mark) → IsOpenAsk m old.path ask → HoldsCover m (limits_of old) mark old.path → old.opened + 2 ≤ limit → IsBranched ask mark (record old { opened = old.opened + 2 }) new → GoesOnFrom m limit old new × IsLater m old new
   branch_step ask mark opened covered more h =
       subst (λ (t : Search). GoesOnFrom m limit old t × IsLater m old t) (sym h) (
         record {
           running = record {
             search = record { limits = record { falls = run.search.limits.falls; loss = run.search.limits.loss; count = run.search.limits.count }; best = run.search.best };
             running = run.running;
-            stands = splits_at m (HasCoverUnlessBare m (opening_of old)) (limits_of old) old.path old.nodes ask mark run.stands (record { opened = opened; marked = λ e. cover_greater m (limits_of old) (opening_of old) old.path run.search.limits.falls (covered e) });
+            stands = splits_at m (HoldsCover m (opening_of old)) (limits_of old) old.path old.nodes ask mark run.stands (record { opened = opened; marked = holds_greater m (limits_of old) (opening_of old) mark old.path run.search.limits.falls covered });
             opened = omega (arith, run.opened, length-append old.nodes (Branched ask mark ∷ []));
           };
           room = more;
@@ -122,7 +123,7 @@ module _ (m : Mill) (limit : ℕ) (old new : Search) (run : IsRunning m old) (ro
         same_later m old _ refl refl refl refl,
       )
 
-  pub split_step : (ask : Ask) (mark : Mark) → IsOpenAsk m old.path ask → (is_bare mark ≡ false → HasCover m (limits_of old) old.path) → (on : Bool) → IsSplitUnder ask mark limit old new on → IsStepped m limit old new on
+  pub split_step : (ask : Ask) (mark : Mark) → IsOpenAsk m old.path ask → HoldsCover m (limits_of old) mark old.path → (on : Bool) → IsSplitUnder ask mark limit old new on → IsStepped m limit old new on
   split_step ask mark opened covered true h = branch_step ask mark opened covered h.0 h.1
   split_step ask mark opened covered false h =
       subst (λ (t : Search). IsOver m limit t × IsLater m old t) (sym h.1) (
@@ -136,7 +137,7 @@ module _ (m : Mill) (limit : ℕ) (old new : Search) (run : IsRunning m old) (ro
           full = h.0;
           ask = ask;
           asks = opened;
-          covered = λ e. cover_greater m (limits_of old) (opening_of old) old.path run.search.limits.falls (covered e);
+          covered = holds_cover m (opening_of old) mark old.path (holds_greater m (limits_of old) (opening_of old) mark old.path run.search.limits.falls covered);
         }),
         same_later m old _ refl refl refl refl,
       )
@@ -164,7 +165,7 @@ module _ (m : Mill) (limit : ℕ) (old new : Search) (run : IsRunning m old) (ro
   small_below : (n : ℕ) → n < 2 ^ 32 → IsSmall (pos n -ℤ pos 1)
   small_below n h = omega (arith, ints)
 
-  pub lower_step : (p : Plan) → IsInBox m (limits_of old) old.path p → (sums_of m p).loss < 2 ^ 32 → new ≡ record old { loss = loss_below m p; best = Some p } → GoesOnFrom m limit old new × IsLater m old new
+  pub lower_step : (p : Plan) → IsFoundPlan m (limits_of old) p → (sums_of m p).loss < 2 ^ 32 → new ≡ record old { loss = loss_below m p; best = Some p } → GoesOnFrom m limit old new × IsLater m old new
   lower_step p inside small h =
       let below : AtMost (loss_below m p) old.loss = below_old (sums_of m p).loss old.loss inside.within.loss in
       subst (λ (t : Search). GoesOnFrom m limit old t × IsLater m old t) (sym h) (
@@ -179,7 +180,7 @@ module _ (m : Mill) (limit : ℕ) (old new : Search) (run : IsRunning m old) (ro
               best = (record { legal = inside.legal; order = inside.order; count = inside.within.count }, refl);
             };
             running = run.running;
-            stands = stands_smaller m (HasCoverUnlessBare m (opening_of old)) (record { loss = loss_below m p; count = old.count }) (limits_of old) (record { loss = below; count = at_most_refl old.count }) old.path old.nodes run.stands;
+            stands = stands_smaller m (HoldsCover m (opening_of old)) (record { loss = loss_below m p; count = old.count }) (limits_of old) (record { loss = below; count = at_most_refl old.count }) old.path old.nodes run.stands;
             opened = run.opened;
           };
           room = room;

@@ -19,7 +19,7 @@ use Rattle.slab_node.specs.Turns.{IsInBox, IsOpenAsk}
 use Rattle.slab_tree.specs.declared.node.Node.{Node}
 use Rattle.slab_tree.specs.declared.node.Node.TheVariants.{Closed, Branched}
 use Rattle.slab_tree.specs.declared.tree.Phase.TheVariants.{Running, Done}
-use Rattle.slab_tree.specs.Marking.{MarkRule, HasCoverUnlessBare, ShowsCoverUnlessBare}
+use Rattle.slab_tree.specs.Marking.{MarkRule, HoldsCover, ShowsCoverUnlessBare}
 use Rattle.slab_tree.specs.Remainders.{after_trees}
 use Rattle.slab_tree.specs.Rewriting.{AreToCome, IsAtTree, IsRewriting, IsRewritten, IsWalk, IsSameTree, MovesOn}
 use Rattle.slab_tree.specs.Searches.{Search, limits_of, opening_of, IsFinished, HasLimitsBelow}
@@ -50,43 +50,43 @@ comes_next m Rule limits ((ask, false) ∷ path) branch nodes e h = comes_next m
 -- a leaf
 pub record IsAtLeaf (m : Mill) (t : Search) (p : Prices) (rest : List Node) : Type 0 where
   pub refutes : Refutes m (limits_of t) t.path p
-  pub to_come : AreToCome m (HasCoverUnlessBare m (opening_of t)) (limits_of t) t.path rest
+  pub to_come : AreToCome m (HoldsCover m (opening_of t)) (limits_of t) t.path rest
 
 -- an inner node
 pub record IsAtSplit (m : Mill) (t : Search) (ask : Ask) (mark : Mark) (rest : List Node) : Type 0 where
   pub left : Tree Mark Prices
   pub right : Tree Mark Prices
   pub more : List Node
-  pub done : IsDone m (HasCoverUnlessBare m (opening_of t)) (limits_of t) (Split mark ask left right) t.path
+  pub done : IsDone m (HoldsCover m (opening_of t)) (limits_of t) (Split mark ask left right) t.path
   pub rest_is : rest ≡ (nodes_of left ++ nodes_of right) ++ more
-  pub to_come : AreToCome m (HasCoverUnlessBare m (opening_of t)) (limits_of t) t.path more
+  pub to_come : AreToCome m (HoldsCover m (opening_of t)) (limits_of t) t.path more
 
 no_split : (p : Prices) (ask : Ask) (mark : Mark) → Closed p ≡ Branched ask mark → ⊥
 no_split p ask mark e = cc
 
-pub at_leaf : (m : Mill) (t : Search) (p : Prices) (rest : List Node) → IsAtTree m (HasCoverUnlessBare m (opening_of t)) (limits_of t) t.path (Closed p ∷ rest) → IsAtLeaf m t p rest
+pub at_leaf : (m : Mill) (t : Search) (p : Prices) (rest : List Node) → IsAtTree m (HoldsCover m (opening_of t)) (limits_of t) t.path (Closed p ∷ rest) → IsAtLeaf m t p rest
 at_leaf m t p rest h = by h.tree h.done h.nodes_are
   where
-    by : (tree : Tree Mark Prices) → IsDone m (HasCoverUnlessBare m (opening_of t)) (limits_of t) tree t.path → Closed p ∷ rest ≡ nodes_of tree ++ h.more → IsAtLeaf m t p rest
+    by : (tree : Tree Mark Prices) → IsDone m (HoldsCover m (opening_of t)) (limits_of t) tree t.path → Closed p ∷ rest ≡ nodes_of tree ++ h.more → IsAtLeaf m t p rest
     by (End q) done e = record {
       refutes = subst (λ (x : Prices). Refutes m (limits_of t) t.path x) (same (sym (heads (Closed p) (Closed q) rest h.more e))) done.refutes;
-      to_come = subst (λ (ns : List Node). AreToCome m (HasCoverUnlessBare m (opening_of t)) (limits_of t) t.path ns) (sym (tails (Closed p) (Closed q) rest h.more e)) h.to_come;
+      to_come = subst (λ (ns : List Node). AreToCome m (HoldsCover m (opening_of t)) (limits_of t) t.path ns) (sym (tails (Closed p) (Closed q) rest h.more e)) h.to_come;
     }
       where
         same : Closed q ≡ Closed p → q ≡ p
         same w = cc
     by (Split mark ask left right) done e = absurd (no_split p ask mark (heads (Closed p) (Branched ask mark) rest ((nodes_of left ++ nodes_of right) ++ h.more) e))
 
-pub at_split : (m : Mill) (t : Search) (ask : Ask) (mark : Mark) (rest : List Node) → IsAtTree m (HasCoverUnlessBare m (opening_of t)) (limits_of t) t.path (Branched ask mark ∷ rest) → IsAtSplit m t ask mark rest
+pub at_split : (m : Mill) (t : Search) (ask : Ask) (mark : Mark) (rest : List Node) → IsAtTree m (HoldsCover m (opening_of t)) (limits_of t) t.path (Branched ask mark ∷ rest) → IsAtSplit m t ask mark rest
 at_split m t ask mark rest h = by h.tree h.done h.nodes_are
   where
-    by : (tree : Tree Mark Prices) → IsDone m (HasCoverUnlessBare m (opening_of t)) (limits_of t) tree t.path → Branched ask mark ∷ rest ≡ nodes_of tree ++ h.more → IsAtSplit m t ask mark rest
+    by : (tree : Tree Mark Prices) → IsDone m (HoldsCover m (opening_of t)) (limits_of t) tree t.path → Branched ask mark ∷ rest ≡ nodes_of tree ++ h.more → IsAtSplit m t ask mark rest
     by (End q) done e = absurd (no_split q ask mark (sym (heads (Branched ask mark) (Closed q) rest h.more e)))
     by (Split other asked left right) done e = record {
       left = left;
       right = right;
       more = h.more;
-      done = subst (λ (x : Mark × Ask). IsDone m (HasCoverUnlessBare m (opening_of t)) (limits_of t) (Split x.0 x.1 left right) t.path) (λ i. (mark_is i, ask_is i)) done;
+      done = subst (λ (x : Mark × Ask). IsDone m (HoldsCover m (opening_of t)) (limits_of t) (Split x.0 x.1 left right) t.path) (λ i. (mark_is i, ask_is i)) done;
       rest_is = tails (Branched ask mark) (Branched asked other) rest ((nodes_of left ++ nodes_of right) ++ h.more) e;
       to_come = h.to_come;
     }
@@ -105,19 +105,19 @@ at_split m t ask mark rest h = by h.tree h.done h.nodes_are
 module _ (m : Mill) (old new : Search) where
   -- the new tree's next node is closed, and the branches that wait come next
   pub closes_walk : (p : Prices) (rest : List Node) → IsClosed p old new → Stands m (ShowsCoverUnlessBare m (limits_of old)) (limits_of old) old.path old.nodes → old.phase ≡ Running → Refutes m (limits_of old) old.path p
-      → AreToCome m (HasCoverUnlessBare m (opening_of old)) (limits_of old) old.path rest → IsWalk m new rest × IsSameTree old new × (new.nodes ≡ old.nodes ++ Closed p ∷ [])
+      → AreToCome m (HoldsCover m (opening_of old)) (limits_of old) old.path rest → IsWalk m new rest × IsSameTree old new × (new.nodes ≡ old.nodes ++ Closed p ∷ [])
   closes_walk p rest closed stands running refutes to_come = by (next_branch old.path) refl closed (closes_leaf m (ShowsCoverUnlessBare m (limits_of old)) (limits_of old) old.path old.nodes p stands refutes)
     where
       by : (next : Option (List Decision)) → next_branch old.path ≡ next → after_leaf next (record old { nodes = old.nodes ++ Closed p ∷ [] }) new → GoesOn m (ShowsCoverUnlessBare m (limits_of old)) (limits_of old) next (old.nodes ++ Closed p ∷ []) → IsWalk m new rest × IsSameTree old new × (new.nodes ≡ old.nodes ++ Closed p ∷ [])
       by None e h goes =
           subst (λ (t : Search). IsWalk m t rest × IsSameTree old t × (t.nodes ≡ old.nodes ++ Closed p ∷ [])) (sym h) (
-            inr (record { finished = refl; whole = goes; nothing_left = none_to_come m (HasCoverUnlessBare m (opening_of old)) (limits_of old) old.path rest e to_come }),
+            inr (record { finished = refl; whole = goes; nothing_left = none_to_come m (HoldsCover m (opening_of old)) (limits_of old) old.path rest e to_come }),
             record { count = refl; opening = refl; loss = refl; best = refl },
             refl,
           )
       by (Some branch) e h goes =
           subst (λ (t : Search). IsWalk m t rest × IsSameTree old t × (t.nodes ≡ old.nodes ++ Closed p ∷ [])) (sym h) (
-            inl (record { running = running; stands = goes; at_tree = comes_next m (HasCoverUnlessBare m (opening_of old)) (limits_of old) old.path branch rest e to_come }),
+            inl (record { running = running; stands = goes; at_tree = comes_next m (HoldsCover m (opening_of old)) (limits_of old) old.path branch rest e to_come }),
             record { count = refl; opening = refl; loss = refl; best = refl },
             refl,
           )
@@ -134,7 +134,7 @@ module _ (m : Mill) (old new : Search) where
   refuted_moves ask mark before after p h refutes passed closed =
       let split : IsAtSplit m old ask mark before = at_split m old ask mark before h.at_tree in
       let more : after ≡ split.more = passed ∙ ap (λ ns. after_trees 2 ns) split.rest_is ∙ after_two split.left split.right split.more in
-      let w = closes_walk p after closed h.stands h.running refutes (subst (λ (ns : List Node). AreToCome m (HasCoverUnlessBare m (opening_of old)) (limits_of old) old.path ns) (sym more) split.to_come) in
+      let w = closes_walk p after closed h.stands h.running refutes (subst (λ (ns : List Node). AreToCome m (HoldsCover m (opening_of old)) (limits_of old) old.path ns) (sym more) split.to_come) in
       let shorter : length after ≤ length before = omega (arith, ap length more, ap length split.rest_is, length-append (nodes_of split.left ++ nodes_of split.right) split.more) in
       record { same = w.1; walk = w.0; shorter = shorter; fewer = omega (arith, ap length w.2, length-append old.nodes (Closed p ∷ []), shorter) }
 
@@ -182,7 +182,7 @@ pub walks_on : (m : Mill) (t : Search) (before rest : List Node) (node : Node) �
 walks_on m t before rest node e (inl h) = record {
   running = h.running;
   stands = h.stands;
-  at_tree = subst (λ (ns : List Node). IsAtTree m (HasCoverUnlessBare m (opening_of t)) (limits_of t) t.path ns) e h.at_tree;
+  at_tree = subst (λ (ns : List Node). IsAtTree m (HoldsCover m (opening_of t)) (limits_of t) t.path ns) e h.at_tree;
 }
 walks_on m t before rest node e (inr h) = absurd (none (sym e ∙ h.nothing_left))
   where

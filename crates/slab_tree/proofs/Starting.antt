@@ -10,7 +10,7 @@ use Rattle.slab_tree.specs.declared.tree.Phase.TheVariants.{New, Running}
 use Rattle.slab_tree.specs.declared.tree.Ended.{Ended}
 use Rattle.slab_tree.specs.declared.tree.Ended.TheVariants.{Least, NoPlan, Budget}
 use Rattle.slab_tree.specs.Counts.{Counts}
-use Rattle.slab_tree.specs.Marking.{HasCoverUnlessBare}
+use Rattle.slab_tree.specs.Marking.{HoldsCover}
 use Rattle.slab_tree.specs.Standing.{Stands, waiting}
 use Rattle.slab_tree.specs.Searches.{Search, limits_of, opening_of, IsNew, IsRunning, IsReady, IsEnded, IsSameQuestion, bare_count}
 use Rattle.slab_tree.specs.Stepping.{IsStarted, HasRoot}
@@ -23,7 +23,7 @@ module _ (m : Mill) (old new : Search) (n k : Counts) (some : 1 ≤ n.limit) (ro
         running = record {
           search = record { limits = record { falls = is.search.limits.falls; loss = is.search.limits.loss; count = is.search.limits.count }; best = is.search.best };
           running = refl;
-          stands = subst (λ (p : List Decision). Stands m (HasCoverUnlessBare m (opening_of old)) (limits_of old) p old.nodes) (sym is.no_path) is.no_nodes;
+          stands = subst (λ (p : List Decision). Stands m (HoldsCover m (opening_of old)) (limits_of old) p old.nodes) (sym is.no_path) is.no_nodes;
           opened = omega (arith, ap (λ (ns : List Node). length ns) is.no_nodes, ap waiting is.no_path);
         };
         room = some;

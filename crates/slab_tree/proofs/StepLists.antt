@@ -17,7 +17,7 @@ use Rattle.mill_model.specs.Trees.{Tree, Unmarked, IsTree, EverySplit, preorder,
 use Rattle.mill_model.specs.Trees.Tree.{End, Split}
 use Rattle.slab_tree.specs.declared.node.Node.{Node}
 use Rattle.slab_tree.specs.declared.node.Node.TheVariants.{Closed, Branched}
-use Rattle.slab_tree.specs.Marking.{MarkRule, HasCoverUnlessBare, ShowsCoverUnlessBare}
+use Rattle.slab_tree.specs.Marking.{MarkRule, HoldsCover, ShowsCoverUnlessBare}
 use Rattle.slab_tree.specs.Standing.{IsSplit, IsWhole, nodes_of}
 use Rattle.slab_tree.specs.Steps.{step_of_node, IsLeanRefutation, IsTightRefutation}
 use Rattle.slab_tree.specs.Unfinished.{marks_in}
@@ -57,14 +57,14 @@ one_mark_more marks new done n ask mark e f h = h ∙ ap (λ ms. ms ++ mark ∷ 
 
 -- ---- what the steps show
 
-pub lean_refutation : (m : Mill) (opening limits : Limits) (ns : List Node) → IsWhole m (HasCoverUnlessBare m opening) limits ns → IsLeanRefutation m limits (map step_of_node ns)
+pub lean_refutation : (m : Mill) (opening limits : Limits) (ns : List Node) → IsWhole m (HoldsCover m opening) limits ns → IsLeanRefutation m limits (map step_of_node ns)
 lean_refutation m opening limits ns h = record {
   refutation = record {
     tree = unmarked h.tree;
     steps_are = ap (λ xs. map step_of_node xs) h.nodes_are ∙ preorder_nodes h.tree ∙ unmarked_preorder h.tree;
     refutes = unmarked_tree m (λ p ds. Refutes m limits ds p) h.tree [] h.done.refutes;
   };
-  lean = unmarked_lean h.tree [] (lean m (HasCoverUnlessBare m opening) h.tree [] h.done.splits);
+  lean = unmarked_lean h.tree [] (lean m (HoldsCover m opening) h.tree [] h.done.splits);
 }
 
 right : (m : Mill) (limits : Limits) (mark : Mark) (path : List Decision) → ShowsCoverUnlessBare m limits mark path → IsRight m limits mark path

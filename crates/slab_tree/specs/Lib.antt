@@ -7,7 +7,10 @@ pub mod Bounding
 pub mod Searches
 pub mod Stepping
 pub mod Asking
+pub mod Trails
+pub mod FoundPlans
 pub mod Remainders
 pub mod Showing
+pub mod Keeping
 pub mod Tightening
 pub mod Rewriting

@@ -11,7 +11,7 @@ use Rattle.slab_counter.specs.Counter.{last_count}
 use Rattle.slab_tree.specs.declared.node.Node.{Node}
 use Rattle.slab_tree.specs.declared.tree.Phase.TheVariants.{Running, Done}
 use Rattle.slab_tree.specs.Counts.{Counts, noted_bare}
-use Rattle.slab_tree.specs.Marking.{MarkRule, HasCoverUnlessBare, ShowsCoverUnlessBare}
+use Rattle.slab_tree.specs.Marking.{MarkRule, HoldsCover, ShowsCoverUnlessBare, is_bare}
 use Rattle.slab_tree.specs.Searches.{Search, limits_of, opening_of, bare_count}
 use Rattle.slab_tree.specs.Standing.{IsDone, IsWhole, Stands, nodes_of}
 use Rattle.slab_tree.specs.Tightening.{covered_count}
@@ -41,7 +41,7 @@ pub record IsAtTree (m : Mill) (Rule : MarkRule) (limits : Limits) (path : List 
 pub record IsRewriting (m : Mill) (t : Search) (rest : List Node) : Type 0 where
   pub running : t.phase ≡ Running
   pub stands : Stands m (ShowsCoverUnlessBare m (limits_of t)) (limits_of t) t.path t.nodes
-  pub at_tree : IsAtTree m (HasCoverUnlessBare m (opening_of t)) (limits_of t) t.path rest
+  pub at_tree : IsAtTree m (HoldsCover m (opening_of t)) (limits_of t) t.path rest
 
 -- the new tree is whole, and nothing of the old one is left
 pub record IsRewritten (m : Mill) (t : Search) (rest : List Node) : Type 0 where
@@ -65,6 +65,11 @@ pub record MovesOn (m : Mill) (old new : Search) (node : Node) (before after : L
   pub walk : IsWalk m new after
   pub shorter : length after ≤ length before
   pub fewer : length new.nodes + length after ≤ length old.nodes + length (node ∷ before)
+
+-- the mark isn't bare, and a cover that it shows for the opening limits is within the present ones
+pub record StillShows (m : Mill) (t : Search) (mark : Mark) : Type 0 where
+  pub covered : is_bare mark ≡ false
+  pub shows : (decisions : List Decision) → HoldsCover m (opening_of t) mark decisions → ShowsCoverUnlessBare m (limits_of t) mark decisions
 
 -- ---- the counts
 

@@ -15,7 +15,7 @@ use Rattle.slab_tree.specs.declared.tree.Phase.{Phase}
 use Rattle.slab_tree.specs.declared.tree.Phase.TheVariants.{New, Running, Done, Refused}
 use Rattle.slab_tree.specs.declared.tree.Ended.{Ended}
 use Rattle.slab_tree.specs.declared.tree.Ended.TheVariants.{Least, NoPlan, Budget}
-use Rattle.slab_tree.specs.Marking.{HasCoverUnlessBare, bare_marks}
+use Rattle.slab_tree.specs.Marking.{HoldsCover, bare_marks}
 use Rattle.slab_tree.specs.Standing.{Stands, IsWhole, waiting}
 use Rattle.slab_tree.specs.Unfinished.{marks_in, ask_of}
 
@@ -74,7 +74,7 @@ pub record IsNew (m : Mill) (t : Search) : Type 0 where
 
 -- closed nodes refute the present limits, and each split has a cover for the opening limits, unless it is bare
 abbrev pub StandsAtPath : Mill → Search → Type 0
-StandsAtPath m t = Stands m (HasCoverUnlessBare m (opening_of t)) (limits_of t) t.path t.nodes
+StandsAtPath m t = Stands m (HoldsCover m (opening_of t)) (limits_of t) t.path t.nodes
 
 pub record IsRunning (m : Mill) (t : Search) : Type 0 where
   pub search : IsSearch m t
@@ -90,7 +90,7 @@ IsReady m t = IsNew m t ⊎ IsRunning m t
 pub record IsFinished (m : Mill) (t : Search) : Type 0 where
   pub limits : HasLimitsBelow t
   pub finished : t.phase ≡ Done
-  pub whole : IsWhole m (HasCoverUnlessBare m (opening_of t)) (limits_of t) t.nodes
+  pub whole : IsWhole m (HoldsCover m (opening_of t)) (limits_of t) t.nodes
   pub opened : t.opened ≡ length t.nodes
 
 -- the next split would give more nodes than the limit

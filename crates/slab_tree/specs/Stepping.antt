@@ -10,7 +10,6 @@ use Rattle.mill_model.specs.Paths.{next_branch}
 use Rattle.mill_model.specs.Prices.{Prices}
 use Rattle.slab_columns.specs.Pool.{Pool}
 use Rattle.slab_decide.specs.Decided.{Decisions}
-use Rattle.slab_node.specs.Turns.{IsOpenAsk}
 use Rattle.slab_tree.specs.Counts.{Counts, AreRaised, raised_by}
 use Rattle.slab_tree.specs.declared.node.Node.TheVariants.{Closed, Branched}
 use Rattle.slab_tree.specs.declared.tree.Phase.{Phase}
@@ -37,12 +36,6 @@ IsBranched ask mark old new = new ≡ record old { nodes = old.nodes ++ Branched
 abbrev pub IsSplitUnder : Ask → Mark → ℕ → Search → Search → Bool → Type 0
 IsSplitUnder ask mark limit old new true = (old.opened + 2 ≤ limit) × IsBranched ask mark (record old { opened = old.opened + 2 }) new
 IsSplitUnder ask mark limit old new false = (limit < old.opened + 2) × (new ≡ record old { phase = Refused (is_bare mark) })
-
--- the same, on some question that the path leaves open
-pub record IsSplitSome (m : Mill) (mark : Mark) (limit : ℕ) (old new : Search) (on : Bool) : Type 0 where
-  pub ask : Ask
-  pub asks : IsOpenAsk m old.path ask
-  pub split : IsSplitUnder ask mark limit old new on
 
 -- the root takes the first node
 abbrev pub IsStarted : Phase → Search → Search → Counts → Counts → Type 0

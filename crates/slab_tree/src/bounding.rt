@@ -6,9 +6,9 @@ ghost use Rattle.mill_model.specs.SignedSums.{total_by};
 ghost use Rattle.mill_model.specs.Prices.{IsPrice};
 ghost use Rattle.mill_model.specs.Plain.{IsPlainlyRefuted};
 ghost use Rattle.slab_master.specs.Given.{IsSmall};
+ghost use Rattle.slab_node.specs.PoolCovers.{IsPoolCover};
 ghost use Rattle.slab_node.specs.Tallies.{AreNoLess};
 ghost use Rattle.slab_node.specs.Turns.{IsNode, IsTurn, IsRefuted, IfSpread};
-ghost use Rattle.slab_tree.specs.Asking.{AreThere};
 ghost use Rattle.slab_tree.specs.Bounding.{HasLimits, IsWorth, IsPaidFor};
 
 use crate::guide::Guide;
@@ -40,7 +40,7 @@ pub(crate) fn bounded_turn(
     requires { IsNode mill.now table.now decisions.now limits pool.old }
     ensures turned { IfOk result (IsTurn mill.now limits decisions.now.list tally.old tally.new) }
     ensures plain { IsPlainlyRefuted mill.now limits → IfOk result IsRefuted }
-    ensures cover { IfOk result (λ t. IfSpread t (AreThere pool.new.columns)) }
+    ensures cover { IfOk result (λ t. IfSpread t (IsPoolCover mill.now limits decisions.now.list pool.new.columns)) }
     ensures counters { AreNoLess tally.old tally.new }
     ensures mill { pool.new.mill ≡ mill.now }
     ensures extent { guide.new ≡ guide.old }
@@ -59,7 +59,7 @@ pub(crate) fn bounded_turn(
 }
 
 // The limits with a loss limit that isn't above the aim.
-fn smaller_limits(limits: Limits, aim: i64) -> Limits
+pub(crate) fn smaller_limits(limits: Limits, aim: i64) -> Limits
     requires { IsSmall (number_of limits.loss) }
     ensures smaller { AreSmaller result limits }
     ensures small { IsSmall (number_of result.loss) }

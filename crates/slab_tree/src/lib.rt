@@ -5,15 +5,21 @@
 #![tactic(auto)]
 
 mod bounding;
+mod dives;
+mod filling;
 mod guide;
+mod in_order;
+mod keeping;
 mod node;
 mod nodes;
 mod path;
 mod questions;
 mod records;
 mod rest;
+mod rounding;
 mod shares;
 mod showing;
+mod trail;
 mod tree;
 
 pub use node::Node;

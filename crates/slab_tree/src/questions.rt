@@ -124,7 +124,7 @@ impl Questions {
 }
 
 // Whether there are such orders and such a surplus slab.
-fn is_among(orders: u16, yard: u16, ask: Ask) -> bool
+pub(crate) fn is_among(orders: u16, yard: u16, ask: Ask) -> bool
     ensures { IsTrue result ↔ IsAskAmong orders yard ask }
 {
     match ask {

@@ -1,6 +1,6 @@
 //! A cover by columns of the pool, as a mark shows it.
 
-ghost use Rattle.std.specs.Prelude.{◌≡◌, ◌<◌, ◌≤◌, ◌++◌, List, IfOk, OnOk, true, length};
+ghost use Rattle.std.specs.Prelude.{◌≡◌, ◌<◌, ◌≤◌, ◌++◌, List, IfOk, OnOk, true, false, length};
 ghost use Rattle.mill_model.specs.declared.limits.Limits.{Limits};
 ghost use Rattle.mill_model.specs.Decisions.{Decision};
 ghost use Rattle.mill_model.specs.Mill.{Mill};
@@ -9,7 +9,7 @@ ghost use Rattle.slab_frac.specs.Scaled.{AreInRange};
 ghost use Rattle.slab_node.specs.PoolCovers.{IsPoolCover, column_at, multipliers as multipliers_in};
 ghost use Rattle.slab_node.specs.Tallies.{AreNoLess, HasCause};
 ghost use Rattle.slab_tree.specs.Asking.{AreThere};
-ghost use Rattle.slab_tree.specs.Marking.{ShowsCoverUnlessBare, is_bare};
+ghost use Rattle.slab_tree.specs.Marking.{HoldsCover, ShowsCoverUnlessBare, is_bare};
 ghost use Rattle.slab_tree.specs.Showing.{share_of, shares_of};
 
 use mill_model::{Mark, Share, Shown};
@@ -48,6 +48,24 @@ pub(crate) fn mark_of(
         &mut times,
         &mut tally.wides,
     )
+}
+
+// The same, or the plain mark where the cover can't be shown.
+pub(crate) fn shown_or_plain(
+    alloc: Global,
+    pool: &Pool,
+    cover: &Cover,
+    tally: &mut Tally,
+) -> Result<Mark, AllocError>
+    requires { AreThere pool.now.columns cover.now }
+    ensures holds { (m : Mill) (limits : Limits) (decisions : List Decision) → IsPoolCover m limits decisions pool.now.columns cover.now → IfOk result (λ mark. HoldsCover m limits mark decisions) }
+    ensures covered { IfOk result (λ mark. is_bare mark ≡ false) }
+    ensures counters { AreNoLess tally.old tally.new }
+{
+    match mark_of(alloc, pool, cover, tally)? {
+        Mark::Spread(shown) => Ok(Mark::Spread(shown)),
+        Mark::Bare | Mark::Plain => Ok(Mark::Plain),
+    }
 }
 
 // The mark of these columns and multipliers, with room for their whole numbers.

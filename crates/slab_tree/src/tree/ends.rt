@@ -4,7 +4,7 @@ ghost use Rattle.std.specs.Prelude.{ℕ, ◌≡◌, ◌≤◌, ◌++◌, ◌∷�
 ghost use Rattle.mill_model.specs.declared.limits.Limits.{Limits};
 ghost use Rattle.mill_model.specs.Mill.{Mill};
 ghost use Rattle.mill_model.specs.Trees.{step_of as step_of_ask};
-ghost use Rattle.slab_tree.specs.Marking.{HasCoverUnlessBare, ShowsCoverUnlessBare};
+ghost use Rattle.slab_tree.specs.Marking.{HoldsCover, ShowsCoverUnlessBare};
 ghost use Rattle.slab_tree.specs.Searches.{IsRefused, bare_count, opening_of, outline_of};
 ghost use Rattle.slab_tree.specs.Standing.{IsWhole};
 ghost use Rattle.slab_tree.specs.Steps.{step_of_node, IsLeanRefutation, IsTightRefutation};
@@ -20,7 +20,7 @@ impl Tree {
     pub fn steps(self, alloc: Global) -> Result<Steps, AllocError>
         ensures steps { IfOk result (λ s. s.steps ≡ map step_of_node self.nodes) }
         ensures marks { IfOk result (λ s. s.marks ≡ marks_in self.nodes) }
-        ensures lean { IfOk result (λ s. (m : Mill) (opening limits : Limits) → IsWhole m (HasCoverUnlessBare m opening) limits self.nodes → IsLeanRefutation m limits s.steps) }
+        ensures lean { IfOk result (λ s. (m : Mill) (opening limits : Limits) → IsWhole m (HoldsCover m opening) limits self.nodes → IsLeanRefutation m limits s.steps) }
         ensures tight { IfOk result (λ s. (m : Mill) (limits : Limits) → IsWhole m (ShowsCoverUnlessBare m limits) limits self.nodes → IsTightRefutation m limits s) }
     {
         let (steps, marks) = self.parts(alloc)?;

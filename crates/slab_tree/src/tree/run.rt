@@ -1,26 +1,31 @@
 //! The search: depth first, yes before no, under limits that fall.
 
-ghost use Rattle.std.specs.Prelude.{◌≡◌, ◌≤◌, ◌<◌, ◌↔◌, IfOk, OnOk, OnErr, IsSome, IsTrue, [], true, false, length};
+ghost use Rattle.std.specs.Prelude.{◌≡◌, ◌≤◌, ◌<◌, ◌↔◌, IfOk, IfSome, OnOk, OnErr, IsSome, IsTrue, [], true};
 ghost use Rattle.mill_model.specs.Decisions.{IsAskAmong};
 ghost use Rattle.mill_model.specs.Paths.{next_branch as branch_after};
 ghost use Rattle.mill_model.specs.Plain.{IsPlainlyRefuted};
 ghost use Rattle.mill_model.specs.Trees.{most_nodes};
+ghost use Rattle.slab_node.specs.PoolCovers.{IsPoolCover};
 ghost use Rattle.slab_node.specs.Tallies.{AreNoLess, HasCause, HaveCauses};
 ghost use Rattle.slab_node.specs.Turns.{IsOpenAsk, IsUndecided};
 ghost use Rattle.slab_tree.specs.Asking.{AreThere, extent_of};
 ghost use Rattle.slab_tree.specs.Counts.{AreRaised, IsCountedSplit};
+ghost use Rattle.slab_tree.specs.FoundPlans.{IsFoundPlan};
 ghost use Rattle.slab_tree.specs.Marking.{is_bare};
 ghost use Rattle.slab_tree.specs.Standing.{IsOpenPath};
 ghost use Rattle.slab_tree.specs.Searches.{HasBareEnd, IsReady, IsRunning, IsEnded, IsAnswer, IsSameQuestion, limits_of, bare_count};
-ghost use Rattle.slab_tree.specs.Stepping.{IsClosed, IsClosedAtOnce, IsSplitSome, IsSplitUnder, IsStepped, IsWorkplace};
+ghost use Rattle.slab_tree.specs.Stepping.{IsClosed, IsClosedAtOnce, IsSplitUnder, IsStepped, IsWorkplace};
 
 use super::{Ended, Tree};
 use crate::Nodes;
 use crate::bounding::bounded_turn;
+use crate::dives::dive;
 use crate::guide::Guide;
 use crate::path::decide;
+use crate::rounding::rounded;
+use crate::showing::shown_or_plain;
 use loss_table::LossTable;
-use mill_model::{Ask, Mark, Mill, Prices};
+use mill_model::{Ask, Mark, Mill, Plan, Prices};
 use slab_columns::Pool;
 use slab_decide::Decisions;
 use slab_node::{Cover, Tally, Turned};
@@ -154,7 +159,9 @@ impl Tree {
                 Ok(true)
             }
             Turned::Spread(cover, first) => {
-                self.split_next(mill, &cover, first, decisions, guide, pool, nodes)
+                self.split_next(
+                    alloc, mill, table, &cover, first, decisions, guide, pool, nodes, tally,
+                )
             }
             Turned::Bare(ask) => self.go_down(ask, Mark::Bare, decisions, guide, nodes),
         }
@@ -180,34 +187,84 @@ impl Tree {
         Ok(on)
     }
 
-    // Splits the next node on a question that the guide chooses, by the cover that a turn gave.
+    // Goes on from a cover that a turn gave: takes a plan that it leads to, or else splits the next node.
     fn split_next(
         &mut self,
+        alloc: Global,
         mill: &Mill,
+        table: &LossTable,
         cover: &Cover,
         first: Ask,
         decisions: &mut Decisions,
         guide: &mut Guide,
-        pool: &Pool,
+        pool: &mut Pool,
         nodes: &mut Nodes,
+        tally: &mut Tally,
     ) -> Result<bool, AllocError>
+        requires tree { IsRunning mill.now self.old }
         requires room { self.old.opened ≤ nodes.old.limit }
-        requires orders { decisions.old.orders ≡ length mill.now.orders }
-        requires yard { decisions.old.yard ≡ length mill.now.yard }
-        requires path { decisions.old.list ≡ self.old.path }
-        requires first { IsOpenAsk mill.now decisions.old.list first }
-        requires cover { AreThere pool.now.columns cover.now }
+        requires place { IsWorkplace mill.now table.now pool.old decisions.old self.old.path }
         requires extent { guide.old ≡ extent_of decisions.old }
-        ensures ok { IfOk result (IsSplitSome mill.now Mark.Plain nodes.old.limit self.old self.new) }
+        requires first { IsOpenAsk mill.now self.old.path first }
+        requires cover { IsPoolCover mill.now (limits_of self.old) self.old.path pool.old.columns cover.now }
+        ensures ok { IfOk result (IsStepped mill.now nodes.old.limit self.old self.new) }
         ensures err { OnErr result (self.new ≡ self.old) }
-        ensures told { IfOk result (λ on. on ≡ true → decisions.new ≡ record decisions.old { list = self.new.path }) }
-        ensures extent { guide.new ≡ guide.old }
-        ensures counted { IfOk result (IsCountedSplit false nodes.old nodes.new) }
-        ensures uncounted { OnErr result (nodes.new ≡ nodes.old) }
+        ensures place { IfOk result (λ on. on ≡ true → IsWorkplace mill.now table.now pool.new decisions.new self.new.path) }
+        ensures extent { IfOk result (λ on. on ≡ true → guide.new ≡ extent_of decisions.new) }
+        ensures mill { pool.new.mill ≡ mill.now }
+        ensures counters { AreNoLess tally.old tally.new }
+        ensures bares { bare_count self.new.nodes ≡ bare_count self.old.nodes }
+        ensures end { HasBareEnd self.new → ⊥ }
+        ensures counts { AreRaised nodes.old nodes.new self.old.opened self.new.opened (bare_count self.old.nodes) (bare_count self.new.nodes) }
     {
-        let _orders = mill.orders();
+        let _counted = nodes.opened();
         let ask = guide.choose(pool, cover, decisions, first)?;
-        self.go_down(ask, Mark::Plain, decisions, guide, nodes)
+        let mark = shown_or_plain(alloc, pool, cover, tally)?;
+        match self.seek(alloc, mill, table, cover, decisions, guide, pool, tally)? {
+            Some(plan) => {
+                self.lower(mill, plan);
+                Ok(true)
+            }
+            None => self.go_down(ask, mark, decisions, guide, nodes),
+        }
+    }
+
+    // Looks for a plan within the limits from a cover: by rounding it, and by dives where they are due.
+    fn seek(
+        &self,
+        alloc: Global,
+        mill: &Mill,
+        table: &LossTable,
+        cover: &Cover,
+        decisions: &mut Decisions,
+        guide: &mut Guide,
+        pool: &mut Pool,
+        tally: &mut Tally,
+    ) -> Result<Option<Plan>, AllocError>
+        requires tree { IsRunning mill.now self.now }
+        requires place { IsWorkplace mill.now table.now pool.old decisions.old self.now.path }
+        requires cover { AreThere pool.old.columns cover.now }
+        ensures found { IfOk result (λ found. IfSome found (IsFoundPlan mill.now (limits_of self.now))) }
+        ensures place { OnOk result (IsWorkplace mill.now table.now pool.new decisions.new self.now.path) }
+        ensures extent { guide.new ≡ guide.old }
+        ensures mill { pool.new.mill ≡ mill.now }
+        ensures counters { AreNoLess tally.old tally.new }
+    {
+        let limits = self.limits();
+        if let Some(plan) = rounded(alloc, mill, table, pool, cover, limits)? {
+            return Ok(Some(plan));
+        }
+        for _ in 0..guide.dives_due(self.nodes.len()) {
+            let aims = guide.dive_limits(limits);
+            let found = dive(
+                alloc, mill, table, decisions, &self.path, cover, aims, pool, tally,
+            )?;
+            self.tell(decisions);
+            if found.is_some() {
+                return Ok(found);
+            }
+        }
+        Ok(None)
     }
 
     // Splits the next node, and goes down to its branch for yes, whose decisions are then told.

@@ -1,16 +1,17 @@
 //! A finished tree whose splits are decided anew, for the limits that the search ended with.
 
-ghost use Rattle.std.specs.Prelude.{◌≡◌, ◌≤◌, ◌∷◌, [], IfOk, OnOk, OnErr, length};
+ghost use Rattle.std.specs.Prelude.{◌≡◌, ◌≤◌, ◌∷◌, [], IfOk, OnOk, OnErr, IsTrue, length};
 ghost use Rattle.mill_model.specs.Decisions.{IsAskAmong};
 ghost use Rattle.slab_node.specs.Tallies.{AreNoLess, HaveCauses};
 ghost use Rattle.slab_node.specs.Turns.{IsUndecided};
 ghost use Rattle.slab_tree.specs.Marking.{is_bare};
-ghost use Rattle.slab_tree.specs.Rewriting.{IsRewriting, MovesOn, HasRoom, IsTallied, AreKept, IsNoted};
+ghost use Rattle.slab_tree.specs.Rewriting.{StillShows, IsRewriting, MovesOn, HasRoom, IsTallied, AreKept, IsNoted};
 ghost use Rattle.slab_tree.specs.Searches.{HasLimitsBelow, IsFinished, bare_count};
 ghost use Rattle.slab_tree.specs.Stepping.{IsBranched, IsWorkplace};
 ghost use Rattle.slab_tree.specs.Tightening.{IsTightened, MayCountBare, AreBareCounted};
 
 use super::{Phase, Tree};
+use crate::keeping::is_loss_within;
 use crate::path::decide;
 use crate::rest::Rest;
 use crate::showing::{is_bare, mark_of};
@@ -136,9 +137,22 @@ impl Tree {
                 self.turn_back(prices, decisions)?;
                 Ok(())
             }
+            Node::Branched(ask, mark) if self.still_shows(mill, &mark) => {
+                self.keep(ask, mark, false, decisions, nodes)
+            }
             Node::Branched(ask, mark) => self.decide_anew(
                 alloc, mill, table, ask, mark, rest, decisions, pool, nodes, tally,
             ),
+        }
+    }
+
+    // Whether the mark shows a cover that is within the final limits too.
+    fn still_shows(&self, mill: &Mill, mark: &Mark) -> bool
+        ensures { IsTrue result → StillShows mill.now self.now mark.now }
+    {
+        match mark {
+            Mark::Spread(shown) => is_loss_within(mill, shown, self.loss),
+            Mark::Bare | Mark::Plain => false,
         }
     }
 

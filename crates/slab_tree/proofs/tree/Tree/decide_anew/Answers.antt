@@ -13,7 +13,7 @@ use Rattle.slab_node.specs.PoolCovers.{IsPoolCover}
 use Rattle.slab_node.specs.Tallies.{HasCause}
 use Rattle.slab_node.specs.Turns.{IsTurn, IsInBox, IsOpenAsk, IfSpread}
 use Rattle.slab_tree.specs.declared.node.Node.TheVariants.{Branched}
-use Rattle.slab_tree.specs.Marking.{HasCoverUnlessBare, ShowsCoverUnlessBare, is_bare}
+use Rattle.slab_tree.specs.Marking.{HoldsCover, ShowsCoverUnlessBare, is_bare}
 use Rattle.slab_tree.specs.Rewriting.{MovesOn, HasRoom, IsTallied, IsNoted}
 use Rattle.slab_tree.specs.Searches.{limits_of, bare_count}
 use Rattle.slab_tree.specs.Stepping.{IsBranched}

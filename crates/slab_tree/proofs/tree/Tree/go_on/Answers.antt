@@ -6,7 +6,7 @@ use Rattle.mill_model.specs.Trees.{most_nodes}
 use Rattle.slab_node.specs.Tallies.{HaveCauses}
 use Rattle.slab_tree.specs.declared.node.Node.{Node}
 use Rattle.slab_tree.specs.declared.tree.Ended.{Ended}
-use Rattle.slab_tree.specs.Marking.{HasCoverUnlessBare}
+use Rattle.slab_tree.specs.Marking.{HoldsCover}
 use Rattle.slab_tree.specs.Searches.{Search, IsRunning, IsBest, IsEnded, limits_of, opening_of, bare_count}
 use Rattle.slab_tree.specs.Standing.{waiting}
 use Rattle.slab_tree.specs.Stepping.{IsStepped, IsOver, IsLater, IsFinish, GoesOnFrom}
@@ -22,7 +22,7 @@ at_limit : (m : Mill) (k limit : ℕ) (old new : Search) (a b : Bool) → k ≡ 
 at_limit m k limit old new a b e f h = subst (λ (x : Bool). IsStepped m limit old new x) f (subst (λ (n : ℕ). IsStepped m n old new a) e h)
 
 root_of : (m : Mill) (t : Search) → IsRunning m t → t.nodes ≡ [] → t.path ≡ []
-root_of m t run none = at_root m (HasCoverUnlessBare m (opening_of t)) (limits_of t) t.path t.nodes run.stands none
+root_of m t run none = at_root m (HoldsCover m (opening_of t)) (limits_of t) t.path t.nodes run.stands none
 
 one_of : (m : Mill) (t : Search) → IsRunning m t → t.nodes ≡ [] → t.opened ≡ 1
 one_of m t run none = omega (arith, run.opened, ap (λ (ns : List Node). length ns) none, ap waiting (root_of m t run none))
@@ -38,7 +38,7 @@ returns-in_err-decisions-clause-few c = few_running c.args.mill.now c.args.self.
 pub tell-requires : goal.tell-requires
 tell-requires c =
     rw (ap (λ d. d.orders) c.in_ok-decisions.ensures, ap (λ d. d.yard) c.in_ok-decisions.ensures, c.orders.ensures.value, c.yard.ensures.value)
-    (path_open c.args.mill.now (HasCoverUnlessBare c.args.mill.now (opening_of c.args.self.now)) (limits_of c.args.self.now) c.args.self.now.path c.args.self.now.nodes c.requires.tree.stands)
+    (path_open c.args.mill.now (HoldsCover c.args.mill.now (opening_of c.args.self.now)) (limits_of c.args.self.now) c.args.self.now.path c.args.self.now.nodes c.requires.tree.stands)
 
 -- ---- the loop
 
