@@ -1,0 +1,124 @@
+use Rattle.std.proofs.Common.{◌≡◌, ◌∙◌, ℕ, ◌<◌, Bool, true, false, List, [], length, refl, sym, ap, subst, inl, arith, rules}
+use Rattle.mill_model.specs.Mill.{Mill}
+use Rattle.mill_model.specs.Decisions.{Decision}
+use Rattle.mill_model.specs.Plain.{IsPlainlyRefuted}
+use Rattle.mill_model.specs.Trees.{most_nodes}
+use Rattle.slab_node.specs.Tallies.{HaveCauses}
+use Rattle.slab_tree.specs.declared.node.Node.{Node}
+use Rattle.slab_tree.specs.declared.tree.Ended.{Ended}
+use Rattle.slab_tree.specs.Marking.{HoldsCover}
+use Rattle.slab_tree.specs.Searches.{Search, IsRunning, IsBest, IsEnded, limits_of, opening_of, bare_count}
+use Rattle.slab_tree.specs.Standing.{waiting}
+use Rattle.slab_tree.specs.Stepping.{IsStepped, IsOver, IsLater, IsFinish, GoesOnFrom}
+use Rattle.slab_tree.proofs.Counts.{raised_trans, raised_none, raised_same}
+use Rattle.slab_tree.proofs.Endings.{few_running, ending_of, done_answers, IsHandedOut, IsEnding}
+use Rattle.slab_tree.proofs.Moves.{later_trans, later_refl}
+use Rattle.slab_tree.proofs.Standing.{path_open, at_root}
+use Rattle.slab_tree.proofs.Tallies.{no_less_refl, no_less_trans, causes_same, causes_trans, cause_later}
+use Rattle.slab_tree.proofs.tree.Tree.go_on.Goals as goal
+
+-- the step's answer, at the limit of the whole run
+at_limit : (m : Mill) (k limit : ℕ) (old new : Search) (a b : Bool) → k ≡ limit → a ≡ b → IsStepped m k old new a → IsStepped m limit old new b
+at_limit m k limit old new a b e f h = subst (λ (x : Bool). IsStepped m limit old new x) f (subst (λ (n : ℕ). IsStepped m n old new a) e h)
+
+root_of : (m : Mill) (t : Search) → IsRunning m t → t.nodes ≡ [] → t.path ≡ []
+root_of m t run none = at_root m (HoldsCover m (opening_of t)) (limits_of t) t.path t.nodes run.stands none
+
+one_of : (m : Mill) (t : Search) → IsRunning m t → t.nodes ≡ [] → t.opened ≡ 1
+one_of m t run none = omega (arith, run.opened, ap (λ (ns : List Node). length ns) none, ap waiting (root_of m t run none))
+
+-- ---- before the loop
+
+pub returns-in_err-guide-clause-few : goal.returns-in_err-guide-clause-few
+returns-in_err-guide-clause-few c = few_running c.args.mill.now c.args.self.now c.requires.tree
+
+pub returns-in_err-decisions-clause-few : goal.returns-in_err-decisions-clause-few
+returns-in_err-decisions-clause-few c = few_running c.args.mill.now c.args.self.now c.requires.tree
+
+pub tell-requires : goal.tell-requires
+tell-requires c =
+    rw (ap (λ d. d.orders) c.in_ok-decisions.ensures, ap (λ d. d.yard) c.in_ok-decisions.ensures, c.orders.ensures.value, c.yard.ensures.value)
+    (path_open c.args.mill.now (HoldsCover c.args.mill.now (opening_of c.args.self.now)) (limits_of c.args.self.now) c.args.self.now.path c.args.self.now.nodes c.requires.tree.stands)
+
+-- ---- the loop
+
+pub nodes-preserved : goal.nodes-preserved
+nodes-preserved c =
+    let w : GoesOnFrom c.args.mill.now c.args.nodes.now.limit c.nodes.self c.step.new.self × IsLater c.args.mill.now c.nodes.self c.step.new.self =
+    at_limit c.args.mill.now c.nodes.nodes.limit c.args.nodes.now.limit c.nodes.self c.step.new.self c.in_ok-step.field-0 true c.nodes.invariant.limit c.if-not-branch.false c.in_ok-step.ensures.ok in
+    record {
+      tree = w.0.running;
+      room = w.0.room;
+      later = later_trans c.args.mill.now c.args.self.now c.nodes.self c.step.new.self c.nodes.invariant.later w.1;
+      place = c.in_ok-step.ensures.place c.if-not-branch.false;
+      extent = c.in_ok-step.ensures.extent c.if-not-branch.false;
+      limit = c.in_ok-step.ensures.counts.limit ∙ c.nodes.invariant.limit;
+      counts = raised_trans c.args.nodes.now c.nodes.nodes c.step.new.nodes c.args.self.now.opened c.nodes.self.opened c.step.new.self.opened (bare_count c.args.self.now.nodes) (bare_count c.nodes.self.nodes) (bare_count c.step.new.self.nodes) c.nodes.invariant.counts c.in_ok-step.ensures.counts;
+      counters = no_less_trans c.args.tally.now c.nodes.tally c.step.new.tally c.nodes.invariant.counters c.in_ok-step.ensures.counters;
+      causes = causes_trans (bare_count c.args.self.now.nodes) (bare_count c.nodes.self.nodes) (bare_count c.step.new.self.nodes) c.args.tally.now c.nodes.tally c.step.new.tally c.in_ok-step.ensures.counters c.nodes.invariant.causes c.in_ok-step.ensures.causes;
+      plain = λ refuted none.
+          let same : c.nodes.self ≡ c.args.self.now = c.nodes.invariant.plain refuted none in
+          absurd (on (c.in_ok-step.ensures.plain
+          (subst (λ (t : Search). IsPlainlyRefuted c.args.mill.now (limits_of t)) (sym same) refuted)
+          (subst (λ (t : Search). t.path ≡ []) (sym same) (root_of c.args.mill.now c.args.self.now c.requires.tree none))).over);
+    }
+  where
+    on : c.in_ok-step.field-0 ≡ false → ⊥
+    on e = cc
+
+pub returns-in_err-step-clause-few : goal.returns-in_err-step-clause-few
+returns-in_err-step-clause-few c = subst (λ (t : Search). t.opened < most_nodes c.args.mill.now) (sym c.in_err-step.ensures.err) (few_running c.args.mill.now c.nodes.self c.nodes.invariant.tree)
+
+-- ---- the end
+
+ends : (m : Mill) (k limit : ℕ) (first old new final : Search) (on : Bool) (e : Ended) → k ≡ limit → on ≡ false → IsBest m first.count first.loss first.best → IsLater m first old → IsStepped m k old new on → IsFinish new.phase new.best new final e → IsEnding m limit first new final e
+ends m k limit first old new final on e same off start later stepped finish =
+    let w : IsOver m limit new × IsLater m old new = at_limit m k limit old new on false same off stepped in
+    ending_of m limit first new final (later_trans m first old new later w.1) start w.0 e finish
+
+pub returns-then-not-branch-clause-ended : goal.returns-then-not-branch-clause-ended
+returns-then-not-branch-clause-ended c = (ends c.args.mill.now c.nodes.nodes.limit c.args.nodes.now.limit c.args.self.now c.nodes.self c.step.new.self c.finish.new.self c.in_ok-step.field-0 c.finish.result c.nodes.invariant.limit c.if-not-branch.true c.requires.tree.search.best c.nodes.invariant.later c.in_ok-step.ensures.ok c.finish.ensures).ended
+
+pub returns-then-not-branch-clause-question : goal.returns-then-not-branch-clause-question
+returns-then-not-branch-clause-question c = (ends c.args.mill.now c.nodes.nodes.limit c.args.nodes.now.limit c.args.self.now c.nodes.self c.step.new.self c.finish.new.self c.in_ok-step.field-0 c.finish.result c.nodes.invariant.limit c.if-not-branch.true c.requires.tree.search.best c.nodes.invariant.later c.in_ok-step.ensures.ok c.finish.ensures).question
+
+pub returns-then-not-branch-clause-room : goal.returns-then-not-branch-clause-room
+returns-then-not-branch-clause-room c = (ends c.args.mill.now c.nodes.nodes.limit c.args.nodes.now.limit c.args.self.now c.nodes.self c.step.new.self c.finish.new.self c.in_ok-step.field-0 c.finish.result c.nodes.invariant.limit c.if-not-branch.true c.requires.tree.search.best c.nodes.invariant.later c.in_ok-step.ensures.ok c.finish.ensures).room
+
+pub returns-then-not-branch-clause-few : goal.returns-then-not-branch-clause-few
+returns-then-not-branch-clause-few c = (ends c.args.mill.now c.nodes.nodes.limit c.args.nodes.now.limit c.args.self.now c.nodes.self c.step.new.self c.finish.new.self c.in_ok-step.field-0 c.finish.result c.nodes.invariant.limit c.if-not-branch.true c.requires.tree.search.best c.nodes.invariant.later c.in_ok-step.ensures.ok c.finish.ensures).few
+
+pub returns-then-not-branch-clause-plain : goal.returns-then-not-branch-clause-plain
+returns-then-not-branch-clause-plain c = λ refuted none.
+    let same : c.nodes.self ≡ c.args.self.now = c.nodes.invariant.plain refuted none in
+    done_answers c.step.new.self c.finish.new.self
+    (c.in_ok-step.ensures.plain
+    (subst (λ (t : Search). IsPlainlyRefuted c.args.mill.now (limits_of t)) (sym same) refuted)
+    (subst (λ (t : Search). t.path ≡ []) (sym same) (root_of c.args.mill.now c.args.self.now c.requires.tree none))).finished
+    c.finish.result c.finish.ensures
+
+pub returns-then-not-branch-clause-one : goal.returns-then-not-branch-clause-one
+returns-then-not-branch-clause-one c = λ refuted none.
+    let kept : IsHandedOut c.step.new.self c.finish.new.self = (ends c.args.mill.now c.nodes.nodes.limit c.args.nodes.now.limit c.args.self.now c.nodes.self c.step.new.self c.finish.new.self c.in_ok-step.field-0 c.finish.result c.nodes.invariant.limit c.if-not-branch.true c.requires.tree.search.best c.nodes.invariant.later c.in_ok-step.ensures.ok c.finish.ensures).kept in
+    let same : c.nodes.self ≡ c.args.self.now = c.nodes.invariant.plain refuted none in
+    kept.opened ∙ (c.in_ok-step.ensures.plain
+    (subst (λ (t : Search). IsPlainlyRefuted c.args.mill.now (limits_of t)) (sym same) refuted)
+    (subst (λ (t : Search). t.path ≡ []) (sym same) (root_of c.args.mill.now c.args.self.now c.requires.tree none))).opened
+    ∙ ap (λ (t : Search). t.opened) same ∙ one_of c.args.mill.now c.args.self.now c.requires.tree none
+
+pub returns-then-not-branch-clause-counts : goal.returns-then-not-branch-clause-counts
+returns-then-not-branch-clause-counts c =
+    let kept : IsHandedOut c.step.new.self c.finish.new.self = (ends c.args.mill.now c.nodes.nodes.limit c.args.nodes.now.limit c.args.self.now c.nodes.self c.step.new.self c.finish.new.self c.in_ok-step.field-0 c.finish.result c.nodes.invariant.limit c.if-not-branch.true c.requires.tree.search.best c.nodes.invariant.later c.in_ok-step.ensures.ok c.finish.ensures).kept in
+    raised_same c.args.nodes.now c.step.new.nodes c.args.self.now.opened c.step.new.self.opened c.finish.new.self.opened (bare_count c.args.self.now.nodes) (bare_count c.step.new.self.nodes) (bare_count c.finish.new.self.nodes) (sym kept.opened) (sym (ap (λ (ns : List Node). bare_count ns) kept.nodes))
+    (raised_trans c.args.nodes.now c.nodes.nodes c.step.new.nodes c.args.self.now.opened c.nodes.self.opened c.step.new.self.opened (bare_count c.args.self.now.nodes) (bare_count c.nodes.self.nodes) (bare_count c.step.new.self.nodes) c.nodes.invariant.counts c.in_ok-step.ensures.counts)
+
+pub returns-then-not-branch-clause-causes : goal.returns-then-not-branch-clause-causes
+returns-then-not-branch-clause-causes c =
+    let kept : IsHandedOut c.step.new.self c.finish.new.self = (ends c.args.mill.now c.nodes.nodes.limit c.args.nodes.now.limit c.args.self.now c.nodes.self c.step.new.self c.finish.new.self c.in_ok-step.field-0 c.finish.result c.nodes.invariant.limit c.if-not-branch.true c.requires.tree.search.best c.nodes.invariant.later c.in_ok-step.ensures.ok c.finish.ensures).kept in
+    subst (λ (ns : List Node). HaveCauses (bare_count c.args.self.now.nodes) c.args.tally.now (bare_count ns) c.step.new.tally) (sym kept.nodes)
+    (causes_trans (bare_count c.args.self.now.nodes) (bare_count c.nodes.self.nodes) (bare_count c.step.new.self.nodes) c.args.tally.now c.nodes.tally c.step.new.tally c.in_ok-step.ensures.counters c.nodes.invariant.causes c.in_ok-step.ensures.causes)
+
+pub returns-then-not-branch-clause-bare_end : goal.returns-then-not-branch-clause-bare_end
+returns-then-not-branch-clause-bare_end c = λ bare.
+    let kept : IsHandedOut c.step.new.self c.finish.new.self = (ends c.args.mill.now c.nodes.nodes.limit c.args.nodes.now.limit c.args.self.now c.nodes.self c.step.new.self c.finish.new.self c.in_ok-step.field-0 c.finish.result c.nodes.invariant.limit c.if-not-branch.true c.requires.tree.search.best c.nodes.invariant.later c.in_ok-step.ensures.ok c.finish.ensures).kept in
+    cause_later c.args.tally.now c.nodes.tally c.step.new.tally c.nodes.invariant.counters (c.in_ok-step.ensures.bare_end (sym kept.phase ∙ bare))

@@ -1,0 +1,16 @@
+pub mod Counts
+pub mod Marking
+pub mod Standing
+pub mod Unfinished
+pub mod Steps
+pub mod Bounding
+pub mod Searches
+pub mod Stepping
+pub mod Asking
+pub mod Trails
+pub mod FoundPlans
+pub mod Remainders
+pub mod Showing
+pub mod Keeping
+pub mod Tightening
+pub mod Rewriting

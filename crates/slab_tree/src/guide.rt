@@ -1,0 +1,156 @@
+//! What guides a run, and what no contract rests on: at which loss a node's turn aims, and what became of branches.
+
+ghost use Rattle.std.specs.Prelude.{◌≡◌, ◌⊎◌, IfOk};
+ghost use Rattle.mill_model.specs.Limits.{AreSmaller, number_of};
+ghost use Rattle.slab_master.specs.Given.{IsSmall};
+ghost use Rattle.slab_tree.specs.Asking.{AreThere, IsOpenAskOf, extent_of};
+
+use crate::bounding::smaller_limits;
+use crate::questions::Questions;
+use mill_model::{Ask, Limits};
+use slab_columns::Pool;
+use slab_decide::Decisions;
+use slab_node::Cover;
+use std::alloc::{AllocError, Global};
+use std::marker::Model;
+
+// The number of dives at the first split.
+const FIRST_DIVES: u32 = 4;
+
+// So many shares of covers are kept with the splits of a tree, about 60 bytes each.
+const MOST_SHARES: usize = 4_000_000;
+
+// The guide of a run.
+#[derive(Drop)]
+pub(crate) struct Guide {
+    questions: Questions,
+    // The least loss of the next node that no prices refuted yet, and that of each node above it.
+    aim: i64,
+    above: Vec<i64>,
+    // How many dives were made, and from how many nodes on the next one is due.
+    dives: u32,
+    next_dive: usize,
+    // How many shares of covers were kept.
+    shares: usize,
+}
+
+impl Model for Guide {
+    ghost use Rattle.slab_tree.specs.Asking.{Extent};
+
+    ghost Value = { Extent };
+
+    ghost view = { λ g. g.questions };
+}
+
+impl Guide {
+    pub(crate) fn new(alloc: Global, orders: u16, yard: u16) -> Result<Guide, AllocError>
+        ensures { IfOk result (λ made. made ≡ record { orders = orders; yard = yard }) }
+    {
+        Ok(Guide {
+            questions: Questions::new(alloc, orders, yard)?,
+            aim: 0,
+            above: Vec::new(alloc),
+            dives: 0,
+            next_dive: 0,
+            shares: 0,
+        })
+    }
+
+    // The loss at which the next node's turn aims.
+    pub(crate) fn aim(&self) -> i64 {
+        self.aim
+    }
+
+    // Prices leave no less loss to the next node.
+    pub(crate) fn raise(&mut self, aim: i64)
+        ensures { self.new ≡ self.old }
+    {
+        self.aim = aim;
+    }
+
+    // The question of a cover to split on.
+    pub(crate) fn choose(
+        &mut self,
+        pool: &Pool,
+        cover: &Cover,
+        decisions: &Decisions,
+        first: Ask,
+    ) -> Result<Ask, AllocError>
+        requires cover { AreThere pool.now.columns cover.now }
+        requires extent { self.old ≡ extent_of decisions.now }
+        ensures ask { IfOk result (λ ask. (ask ≡ first) ⊎ IsOpenAskOf decisions.now ask) }
+        ensures extent { self.new ≡ self.old }
+    {
+        self.questions.choose(pool, cover, decisions, first)
+    }
+
+    // The next node, whose decisions are the path, is split.
+    pub(crate) fn go_down(&mut self, path: &[(Ask, bool)]) -> Result<(), AllocError>
+        ensures { self.new ≡ self.old }
+    {
+        self.note(path, false);
+        self.above.truncate(path.len());
+        self.above.push(self.aim)?;
+        Ok(())
+    }
+
+    // The next node, whose decisions are the path, is closed.
+    pub(crate) fn close(&mut self, path: &[(Ask, bool)])
+        ensures { self.new ≡ self.old }
+    {
+        self.note(path, true);
+    }
+
+    // A branch for no comes next, whose decisions are the path.
+    pub(crate) fn turn_back(&mut self, path: &[(Ask, bool)])
+        ensures { self.new ≡ self.old }
+    {
+        self.above.truncate(path.len());
+        self.aim = self.above.last().copied().unwrap_or(0);
+    }
+
+    // How many dives are due where so many nodes are decided: some at the first split, and one each time that the nodes have grown
+    // by a quarter.
+    pub(crate) fn dives_due(&mut self, nodes: usize) -> u32
+        ensures { self.new ≡ self.old }
+    {
+        if nodes < self.next_dive {
+            return 0;
+        }
+        let first = self.next_dive == 0;
+        self.next_dive = nodes.saturating_add(64.max(nodes / 4));
+        if first { FIRST_DIVES } else { 1 }
+    }
+
+    // The limits of a dive: every second one looks for a plan in the lower half of what is left.
+    pub(crate) fn dive_limits(&mut self, limits: Limits) -> Limits
+        requires { IsSmall (number_of limits.loss) }
+        ensures smaller { AreSmaller result limits }
+        ensures small { IsSmall (number_of result.loss) }
+        ensures count { result.count ≡ limits.count }
+        ensures extent { self.new ≡ self.old }
+    {
+        self.dives = self.dives.saturating_add(1);
+        let most = limits.loss.unwrap_or(self.aim.saturating_add(10_000));
+        if self.dives % 2 == 1 || self.aim >= most {
+            return smaller_limits(limits, most);
+        }
+        smaller_limits(limits, self.aim.saturating_add(most.saturating_sub(self.aim) / 2))
+    }
+
+    // Whether a cover with so many columns may be kept, beside those that were.
+    pub(crate) fn keeps(&mut self, columns: usize) -> bool
+        ensures { self.new ≡ self.old }
+    {
+        self.shares = self.shares.saturating_add(columns);
+        self.shares <= MOST_SHARES
+    }
+
+    fn note(&mut self, path: &[(Ask, bool)], closed: bool)
+        ensures { self.new ≡ self.old }
+    {
+        if let Some(decision) = path.last() {
+            self.questions.note(*decision, closed);
+        }
+    }
+}
