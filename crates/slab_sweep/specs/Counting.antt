@@ -1,0 +1,28 @@
+-- What a sweep counts.
+use Rattle.std.specs.Prelude.{◌≡◌, ℕ, ◌+◌, ◌*◌, ◌≤◌, ◌⊎◌, length}
+use Rattle.slab_counter.specs.Counter.{last_count}
+use Rattle.mill_model.specs.Mill.{Mill}
+use Rattle.mill_model.specs.Trees.{node_bound}
+use Rattle.slab_node.specs.Tallies.{HaveCauses}
+use Rattle.slab_node.specs.declared.tally.Tally.{Tally}
+use Rattle.slab_tree.specs.Counts.{Counts}
+
+-- how many questions a sweep asks at most: for no count limit, and for each from one less than the number of orders to -1
+abbrev pub most_questions : Mill → ℕ
+most_questions m = length m.orders + 2
+
+-- the nodes that were opened are at most what the questions may open, each within the limit, and within the node bound
+pub record OpensFew (m : Mill) (old new : Counts) : Type 0 where
+  pub limit : new.limit ≡ old.limit
+  pub falls : old.opened ≤ new.opened
+  pub limited : new.opened ≤ old.opened + most_questions m * old.limit
+  pub bounded : new.opened ≤ old.opened + node_bound m
+
+-- so many nodes of trees were opened, unless the count stands at its last value
+abbrev pub CountsNodes : ℕ → Counts → Counts → Type 0
+CountsNodes made old new = (old.opened + made ≤ new.opened) ⊎ (last_count ≤ new.opened)
+
+-- so many bare splits were counted, unless the count stands at its last value, and they have causes
+pub record CountsBares (made : ℕ) (old new : Counts) (before after : Tally) : Type 0 where
+  pub counted : (old.bare + made ≤ new.bare) ⊎ (last_count ≤ new.bare)
+  pub causes : HaveCauses 0 before made after
