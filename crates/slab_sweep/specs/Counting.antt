@@ -2,7 +2,7 @@
 use Rattle.std.specs.Prelude.{◌≡◌, ℕ, ◌+◌, ◌*◌, ◌≤◌, ◌⊎◌, length}
 use Rattle.slab_counter.specs.Counter.{last_count}
 use Rattle.mill_model.specs.Mill.{Mill}
-use Rattle.mill_model.specs.Trees.{node_bound}
+use Rattle.mill_model.specs.Trees.{most_nodes, node_bound}
 use Rattle.slab_node.specs.Tallies.{HaveCauses}
 use Rattle.slab_node.specs.declared.tally.Tally.{Tally}
 use Rattle.slab_tree.specs.Counts.{Counts}
@@ -11,12 +11,21 @@ use Rattle.slab_tree.specs.Counts.{Counts}
 abbrev pub most_questions : Mill → ℕ
 most_questions m = length m.orders + 2
 
--- the nodes that were opened are at most what the questions may open, each within the limit, and within the node bound
+-- no count falls, and the nodes that were opened are at most what the questions may open, each within the limit, and the node bound
 pub record OpensFew (m : Mill) (old new : Counts) : Type 0 where
   pub limit : new.limit ≡ old.limit
-  pub falls : old.opened ≤ new.opened
+  pub rises : old.opened ≤ new.opened
+  pub bare_rises : old.bare ≤ new.bare
   pub limited : new.opened ≤ old.opened + most_questions m * old.limit
   pub bounded : new.opened ≤ old.opened + node_bound m
+
+-- one question opens no more nodes than the limit, and no more than a tree has at most
+pub record OpensOneTree (m : Mill) (old new : Counts) : Type 0 where
+  pub limit : new.limit ≡ old.limit
+  pub rises : old.opened ≤ new.opened
+  pub bare_rises : old.bare ≤ new.bare
+  pub limited : new.opened ≤ old.opened + old.limit
+  pub few : new.opened ≤ old.opened + most_nodes m
 
 -- so many nodes of trees were opened, unless the count stands at its last value
 abbrev pub CountsNodes : ℕ → Counts → Counts → Type 0

@@ -1,13 +1,20 @@
 -- The trees that a sweep made, and the points that it kept.
-use Rattle.std.specs.Prelude.{◌≡◌, ℕ, ◌+◌, List, [], ◌∷◌, ◌++◌, length, Option, Some}
+use Rattle.std.specs.Prelude.{◌≡◌, ℕ, ◌+◌, ◌≤◌, Bool, true, List, [], ◌∷◌, ◌++◌, length, Option, Some, None}
+use Rattle.mill_model.specs.declared.ask.Ask.{Ask}
 use Rattle.mill_model.specs.declared.sums.Sums.{Sums}
 use Rattle.mill_model.specs.declared.limits.Limits.{Limits}
 use Rattle.mill_model.specs.Mill.{Mill}
+use Rattle.mill_model.specs.Plans.{sums_of}
 use Rattle.mill_model.specs.Limits.{AreSmaller}
+use Rattle.mill_model.specs.Trees.{most_nodes}
 use Rattle.mill_model.specs.Marks.{MarkedSteps}
-use Rattle.mill_model.specs.Fronts.{Point, last_sums}
+use Rattle.mill_model.specs.Fronts.{Point, below, last_sums}
+use Rattle.slab_node.specs.Tallies.{HasCause}
+use Rattle.slab_node.specs.declared.tally.Tally.{Tally}
 use Rattle.slab_tree.specs.Marking.{bare_marks}
+use Rattle.slab_tree.specs.Searches.{IsLeast, HasNoPlan}
 use Rattle.slab_tree.specs.Steps.{IsTightRefutation}
+use Rattle.slab_tree.specs.Unfinished.{IsCutTree}
 use Rattle.slab_sweep.specs.Openings.{Telling, opening_after, limits_of_point}
 
 -- A lean tree for the limits, each of whose marks is bare or shows a cover within them. They are no greater than the limits with
@@ -15,6 +22,29 @@ use Rattle.slab_sweep.specs.Openings.{Telling, opening_after, limits_of_point}
 pub record IsMade (m : Mill) (opening limits : Limits) (s : MarkedSteps) : Type 0 where
   pub tight : IsTightRefutation m limits s
   pub falls : AreSmaller limits opening
+
+-- ---- what a question shows that opened with these limits
+
+-- a plan of least loss within the count limit, with a tree that was made for less loss
+pub record IsFound (m : Mill) (opening : Limits) (point : Point) : Type 0 where
+  pub least : IsLeast m opening.count point.plan
+  pub sums : sums_of m point.plan ≡ point.sums
+  pub tree : IsMade m opening (record { loss = below (Some point.sums.loss); count = opening.count }) point.steps
+
+-- no plan is within the count limit, as a tree shows that was made for every loss
+pub record IsNothing (m : Mill) (opening : Limits) (s : MarkedSteps) : Type 0 where
+  pub none : HasNoPlan m opening.count
+  pub tree : IsMade m opening (record { loss = None; count = opening.count }) s
+
+-- The next split of its tree would pass the node limit: the tree as far as it came, with so many bare splits. Its refused end is bare
+-- only where a counter rose, and the limit is below the most nodes that a tree has.
+pub record IsCut (m : Mill) (opening : Limits) (limit bares : ℕ) (old new : Tally) (rest : List (Option Ask)) : Type 0 where
+  pub bare_end : Bool
+  pub cut : IsCutTree m opening limit bares bare_end rest
+  pub cause : bare_end ≡ true → HasCause old new
+  pub few : limit + 2 ≤ most_nodes m
+
+-- ---- the points
 
 -- each point's tree was made by its question, from the point before on
 abbrev pub AreMadeFrom : Telling → Mill → Option Sums → List Point → Type 0
@@ -33,7 +63,7 @@ pub record GoesOnFrom (told : Telling) (m : Mill) (before points : List Point) :
   pub added : List Point
   pub points_are : points ≡ kept ++ added
   pub are_kept : AreKept before kept
-  pub made : AreMadeFrom told m (last_sums Option.None kept) added
+  pub made : AreMadeFrom told m (last_sums None kept) added
 
 -- how many nodes some points' trees have
 abbrev pub nodes_of : List Point → ℕ

@@ -1,23 +1,19 @@
 -- What a sweep answers.
-use Rattle.std.specs.Prelude.{◌≡◌, ℕ, ℤ, ◌+◌, ◌<◌, ◌≤◌, Bool, true, List, [], length, drop, Option, Some, None}
+use Rattle.std.specs.Prelude.{◌≡◌, ℕ, ℤ, ◌+◌, ◌<◌, List, [], length, drop, Option, Some, None}
 use Rattle.mill_model.specs.declared.ask.Ask.{Ask}
-use Rattle.mill_model.specs.declared.sums.Sums.{Sums}
 use Rattle.mill_model.specs.Mill.{Mill}
 use Rattle.mill_model.specs.Plans.{Plan, sums_of}
 use Rattle.mill_model.specs.Plain.{IsPlainlyRefuted}
-use Rattle.mill_model.specs.Trees.{most_nodes}
 use Rattle.mill_model.specs.Marks.{MarkedSteps}
 use Rattle.mill_model.specs.Fronts.{Point, IsGoodHead, IsGoodWhole, last_sums}
-use Rattle.slab_node.specs.Tallies.{HasCause}
 use Rattle.slab_node.specs.declared.tally.Tally.{Tally}
 use Rattle.slab_tree.specs.Counts.{Counts}
 use Rattle.slab_tree.specs.Marking.{bare_marks}
-use Rattle.slab_tree.specs.Unfinished.{IsCutTree}
 use Rattle.slab_sweep.specs.declared.swept.Swept.{Swept}
 use Rattle.slab_sweep.specs.declared.swept.Swept.TheVariants.{Complete, NoPlan, Budget}
 use Rattle.slab_sweep.specs.Openings.{Telling, opening_after, limits_of_rest}
-use Rattle.slab_sweep.specs.Made.{IsMade, GoesOnFrom, nodes_of, bares_of}
-use Rattle.slab_sweep.specs.Counting.{CountsNodes, CountsBares}
+use Rattle.slab_sweep.specs.Made.{IsMade, IsCut, GoesOnFrom, nodes_of, bares_of}
+use Rattle.slab_sweep.specs.Counting.{CountsBares}
 
 -- the points are the whole front: a good whole certificate, whose new trees and last tree the sweep made
 pub record IsWholeFront (told : Telling) (m : Mill) (before points : List Point) (last : MarkedSteps) : Type 0 where
@@ -32,15 +28,11 @@ pub record IsNoFront (told : Telling) (m : Mill) (before : List Point) (last : M
   pub good : IsGoodWhole m [] last
   pub rest : IsMade m (opening_after told m None) (limits_of_rest None) last
 
--- The next split of a question's tree would pass the node limit: the points so far, and the tree as far as it came, with so many
--- bare splits. Its refused end is bare only where a counter rose, and the limit is below the most nodes that a tree has.
+-- a question was cut off: the points so far, and its tree as far as it came, with so many bare splits
 pub record IsCutOff (told : Telling) (m : Mill) (limit bares : ℕ) (old new : Tally) (before points : List Point) (rest : List (Option Ask)) : Type 0 where
   pub head : IsGoodHead m points
   pub goes_on : GoesOnFrom told m before points
-  pub bare_end : Bool
-  pub cut : IsCutTree m (opening_after told m (last_sums None points)) limit bares bare_end rest
-  pub cause : bare_end ≡ true → HasCause old new
-  pub below : limit + 2 ≤ most_nodes m
+  pub cut : IsCut m (opening_after told m (last_sums None points)) limit bares old new rest
 
 -- the points after those that were handed in
 abbrev pub added_to : List Point → List Point → List Point

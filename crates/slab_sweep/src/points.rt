@@ -2,6 +2,8 @@
 
 ghost use Rattle.std.specs.Prelude.{◌≡◌, None, OnOk};
 ghost use Rattle.mill_model.specs.Fronts.{last_sums};
+ghost use Rattle.mill_model.specs.Limits.{number_of};
+ghost use Rattle.slab_master.specs.Given.{IsSmall};
 ghost use Rattle.slab_sweep.specs.Openings.{count_after};
 ghost use Rattle.slab_sweep.specs.Placing.{placed};
 
@@ -10,7 +12,8 @@ use std::alloc::AllocError;
 
 /// The count limit of the next question: one less than the count of the last point, and none before the first point.
 pub(crate) fn count_limit(points: &[Proved]) -> Option<i64>
-    ensures { result ≡ count_after (last_sums None points.now) }
+    ensures value { result ≡ count_after (last_sums None points.now) }
+    ensures small { IsSmall (number_of result) }
 {
     match points.last() {
         Some(point) => Some(i64::from(point.sums().count) - 1),

@@ -11,8 +11,9 @@ ghost use Rattle.slab_node.specs.Tallies.{AreNoLess, HaveCauses};
 ghost use Rattle.slab_tree.specs.Marking.{bare_marks};
 ghost use Rattle.slab_tree.specs.Searches.{IsFinished, bare_count, limits_of, opening_of as opening_of_tree};
 ghost use Rattle.slab_tree.specs.Tightening.{MayCountBare};
+ghost use Rattle.slab_sweep.specs.Counting.{OpensOneTree};
 ghost use Rattle.slab_sweep.specs.Made.{IsMade};
-ghost use Rattle.slab_sweep.specs.Questions.{IsAnswered, IsClosedAnswer, OpensWithin, opening_of};
+ghost use Rattle.slab_sweep.specs.Questions.{IsAnswered, IsClosedAnswer, opening_of};
 
 use loss_table::LossTable;
 use mill_model::{Mill, OpenTree, Plan, Proved, Steps};
@@ -50,7 +51,7 @@ pub(crate) fn ask(
     ensures answer { IfOk result (IsAnswered mill.now count best nodes.old nodes.new tally.old tally.new) }
     ensures plain { IsPlainlyRefuted mill.now (opening_of mill.now count best) → IfOk result IsClosedAnswer }
     ensures one { IsPlainlyRefuted mill.now (opening_of mill.now count best) → IfOk result (λ _. nodes.new.opened ≤ nodes.old.opened + 1) }
-    ensures opens { OpensWithin mill.now nodes.old nodes.new tally.old tally.new }
+    ensures opens { OpensOneTree mill.now nodes.old nodes.new }
     ensures causes { HaveCauses nodes.old.bare tally.old nodes.new.bare tally.new }
     ensures counters { AreNoLess tally.old tally.new }
     ensures pool { pool.new.mill ≡ mill.now }
@@ -91,6 +92,7 @@ fn tightened(
     ensures counted { IfOk result (λ s. (bare_marks s.marks + nodes.old.bare ≤ bare_count tree.nodes + nodes.new.bare) ⊎ (last_count ≤ nodes.new.bare)) }
     ensures limit { nodes.new.limit ≡ nodes.old.limit }
     ensures opened { nodes.new.opened ≡ nodes.old.opened }
+    ensures rises { nodes.old.bare ≤ nodes.new.bare }
     ensures bare { HaveCauses nodes.old.bare tally.old nodes.new.bare tally.new }
     ensures counters { AreNoLess tally.old tally.new }
     ensures pool { pool.new.mill ≡ mill.now }
