@@ -45,7 +45,7 @@ pub fn sweep<T: Starter>(
     ensures counters { AreNoLess tally.old tally.new }
     ensures tells { T.told starter.new ≡ T.told starter.old }
 {
-    let _before = nodes.opened();
+    let _orders = mill.orders();
     let table = LossTable::new(alloc, mill)?;
     let mut pool = Pool::new(alloc, mill)?;
     let mut points = head.into_points();
