@@ -1,11 +1,11 @@
 -- Counts over several questions.
-use Rattle.std.proofs.Common.{◌≡◌, ℕ, ◌+◌, ◌*◌, ◌≤◌, length, inl, inr, arith}
+use Rattle.std.proofs.Common.{ℕ, ◌+◌, ◌≤◌, inl, inr, arith}
 use Rattle.std.specs.Prelude.{◌⊎◌}
 use Rattle.std.proofs.lemmas.Nat.{mul-le}
 use Rattle.slab_counter.specs.Counter.{last_count}
 use Rattle.mill_model.specs.Mill.{Mill}
-use Rattle.mill_model.specs.Trees.{most_nodes, node_bound}
-use Rattle.slab_node.specs.Tallies.{AreNoLess, HaveCauses, count_of}
+use Rattle.mill_model.specs.Trees.{most_nodes}
+use Rattle.slab_node.specs.Tallies.{AreNoLess, HaveCauses}
 use Rattle.slab_node.specs.declared.tally.Tally.{Tally}
 use Rattle.slab_tree.specs.Counts.{Counts}
 use Rattle.slab_tree.proofs.Tallies.{causes_trans}

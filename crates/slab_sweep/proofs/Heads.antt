@@ -1,5 +1,5 @@
 -- Heads: their last point, and where the next one goes.
-use Rattle.std.proofs.Common.{◌≡◌, ◌≢◌, ℕ, zero, suc, ◌+◌, ◌-◌, ◌<◌, ◌≤◌, ℤ, pos, ◌-ℤ◌, ◌≤ℤ◌, Bool, true, false, eqb, List, [], ◌∷◌, ◌++◌, length, refl, sym, ap, subst, ◌∙◌, inl, inr, arith, Option, Some, None, slice_get, append_assoc}
+use Rattle.std.proofs.Common.{◌≡◌, ◌≢◌, ℕ, zero, suc, ◌-◌, ◌<◌, ◌≤◌, ℤ, pos, ◌-ℤ◌, Bool, List, [], ◌∷◌, ◌++◌, length, refl, sym, ap, subst, ◌∙◌, inl, inr, arith, Option, Some, None, slice_get, append_assoc}
 use Rattle.std.specs.Prelude.{if◌then◌else◌}
 use Rattle.std.proofs.lemmas.Int.{ints}
 use Rattle.std.proofs.lemmas.Bool.Decides.{eqb_tells}
@@ -9,7 +9,7 @@ use Rattle.mill_model.specs.declared.sums.Sums.{Sums}
 use Rattle.mill_model.specs.Mill.{Mill}
 use Rattle.mill_model.specs.Plans.{Plan, IsLegal, sums_of, is_new}
 use Rattle.mill_model.specs.Limits.{AtMost}
-use Rattle.mill_model.specs.Marks.{MarkedSteps, IsMarkedRefutation}
+use Rattle.mill_model.specs.Marks.{IsMarkedRefutation}
 use Rattle.mill_model.specs.Fronts.{Point, below, Exceeds, FallsBelow, count_before, IsGoodPoint, IsGoodFrom, last_sums}
 use Rattle.mill_model.proofs.Heads.{tree_least}
 use Rattle.mill_model.proofs.PlanCover.{slabs_at_most_orders}

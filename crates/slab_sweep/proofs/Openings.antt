@@ -1,14 +1,12 @@
 -- What holds for the limits with which a question opened holds for greater ones.
-use Rattle.std.proofs.Common.{◌≡◌, ℕ, ℤ, Bool, false, List, [], refl, sym, subst, Option, Some, None}
+use Rattle.std.proofs.Common.{◌≡◌, ℕ, ℤ, Bool, List, [], subst, Option, Some, None}
 use Rattle.mill_model.specs.declared.ask.Ask.{Ask}
-use Rattle.mill_model.specs.declared.mark.Mark.{Mark}
 use Rattle.mill_model.specs.declared.sums.Sums.{Sums}
 use Rattle.mill_model.specs.declared.limits.Limits.{Limits}
 use Rattle.mill_model.specs.Mill.{Mill}
 use Rattle.mill_model.specs.Plans.{Plan}
 use Rattle.mill_model.specs.Limits.{AtMost, AreSmaller}
 use Rattle.mill_model.specs.Starts.{IsAsTold}
-use Rattle.mill_model.specs.Decisions.{Decision}
 use Rattle.mill_model.specs.Marks.{MarkedSteps}
 use Rattle.mill_model.specs.Fronts.{Point}
 use Rattle.mill_model.proofs.MarkLaws.{splits_weaker}

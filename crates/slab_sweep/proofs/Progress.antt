@@ -1,14 +1,11 @@
 -- A sweep from question to question, and its answer.
-use Rattle.std.proofs.Common.{◌≡◌, ℕ, ◌+◌, ◌<◌, ◌≤◌, ℤ, pos, ◌-ℤ◌, ◌≤ℤ◌, List, [], ◌∷◌, length, refl, sym, ap, subst, ◌∙◌, inl, inr, arith, Option, Some, None}
-use Rattle.std.proofs.lemmas.Int.{ints}
+use Rattle.std.proofs.Common.{◌≡◌, ℕ, ◌+◌, ◌<◌, ◌≤◌, List, [], ◌∷◌, length, refl, sym, ap, subst, inl, arith, Option, Some, None}
 use Rattle.std.proofs.Math.Seq.{drop-length}
 use Rattle.mill_model.specs.declared.ask.Ask.{Ask}
 use Rattle.mill_model.specs.declared.sums.Sums.{Sums}
 use Rattle.mill_model.specs.Mill.{Mill}
-use Rattle.mill_model.specs.Plans.{Plan, sums_of}
-use Rattle.mill_model.specs.Limits.{AtMost}
 use Rattle.mill_model.specs.Marks.{MarkedSteps}
-use Rattle.mill_model.specs.Fronts.{Point, Exceeds, IsGoodHead, last_sums}
+use Rattle.mill_model.specs.Fronts.{Point, IsGoodHead, last_sums}
 use Rattle.slab_node.specs.Tallies.{AreNoLess, HaveCauses}
 use Rattle.slab_node.specs.declared.tally.Tally.{Tally}
 use Rattle.slab_tree.specs.Counts.{Counts}
@@ -16,7 +13,7 @@ use Rattle.slab_tree.specs.Marking.{bare_marks}
 use Rattle.slab_tree.proofs.Tallies.{no_less_refl, no_less_trans, causes_same, causes_trans}
 use Rattle.slab_sweep.specs.declared.swept.Swept.{Swept}
 use Rattle.slab_sweep.specs.declared.swept.Swept.TheVariants.{Complete, NoPlan, Budget}
-use Rattle.slab_sweep.specs.Openings.{Telling, count_after, opening_after}
+use Rattle.slab_sweep.specs.Openings.{Telling, opening_after}
 use Rattle.slab_sweep.specs.Made.{IsFound, IsNothing, IsCut, nodes_of, bares_of}
 use Rattle.slab_sweep.specs.Counting.{most_questions, OpensFew, OpensOneTree, CountsNodes, CountsBares}
 use Rattle.slab_sweep.specs.Questions.{AreCounted}
@@ -117,21 +114,23 @@ module _ {told : Telling} {m : Mill} {head points : List Point} {old now new : C
   none_left : (steps : MarkedSteps) → IsNothing m (opening_after told m (last_sums None points)) steps → AreCounted (length steps.steps) (bare_marks steps.marks) now new half is → points ≡ [] → Answers (NoPlan steps)
   unfolding Answers
   none_left steps nothing counted none =
-      let here : IsNothing m (opening_after told m None) steps = subst (λ (ps : List Point). IsNothing m (opening_after told m (last_sums None ps)) steps) none nothing in
-      (
-        (record { none = none_before told m head points way.goes_on none; good = record { head = tt; rest = here.tree.tight.refutation }; rest = here.tree },
-         more_bares (bare_marks steps.marks) (bare_marks steps.marks) (omega arith) counted.marked),
-        more_nodes (length steps.steps) (length steps.steps) (omega arith) counted.opened
+      let here : IsNothing m (opening_after told m None) steps = subst (λ (ps : List Point). IsNothing m (opening_after told m (last_sums None ps)) steps) none nothing in (
+        (
+          record { none = none_before told m head points way.goes_on none; good = record { head = tt; rest = here.tree.tight.refutation }; rest = here.tree },
+          more_bares (bare_marks steps.marks) (bare_marks steps.marks) (omega arith) counted.marked,
+        ),
+        more_nodes (length steps.steps) (length steps.steps) (omega arith) counted.opened,
       )
 
   whole : (steps : MarkedSteps) → IsNothing m (opening_after told m (last_sums None points)) steps → AreCounted (length steps.steps) (bare_marks steps.marks) now new half is → 0 < length points → Answers (Complete (record { points = points; last = steps }))
   unfolding Answers
-  whole steps nothing counted some =
-      (
-        (record { some = some; good = record { head = way.good; rest = nothing.tree.tight.refutation }; goes_on = way.goes_on; rest = nothing.tree },
-         more_bares (bare_marks steps.marks) (bares_of (added_to head points) + bare_marks steps.marks) (omega arith) counted.marked),
-        more_nodes (length steps.steps) (nodes_of (added_to head points) + length steps.steps) (omega arith) counted.opened
-      )
+  whole steps nothing counted some = (
+    (
+      record { some = some; good = record { head = way.good; rest = nothing.tree.tight.refutation }; goes_on = way.goes_on; rest = nothing.tree },
+      more_bares (bare_marks steps.marks) (bares_of (added_to head points) + bare_marks steps.marks) (omega arith) counted.marked,
+    ),
+    more_nodes (length steps.steps) (nodes_of (added_to head points) + length steps.steps) (omega arith) counted.opened,
+  )
 
   pub ended : (steps : MarkedSteps) (s : Swept) → IsNothing m (opening_after told m (last_sums None points)) steps → AreCounted (length steps.steps) (bare_marks steps.marks) now new half is
       → (points ≡ [] → s ≡ NoPlan steps) → (0 < length points → s ≡ Complete (record { points = points; last = steps })) → IsSwept told m head old new was is s × CountsNodes (made_nodes head s) old new
@@ -145,16 +144,15 @@ module _ {told : Telling} {m : Mill} {head points : List Point} {old now new : C
   -- ---- a question was cut off
 
   pub cut_off : (rest : List (Option Ask)) (bares : ℕ) → IsCut m (opening_after told m (last_sums None points)) old.limit bares was is rest → AreCounted (length rest) bares now new half is → IsSwept told m head old new was is (Budget points rest) × CountsNodes (made_nodes head (Budget points rest)) old new
-  cut_off rest bares cut counted =
-      (
-        (bares, record { head = way.good; goes_on = way.goes_on; cut = cut }, more_bares bares (bares_of (added_to head points) + bares) (omega arith) counted.marked),
-        more_nodes (length rest) (nodes_of (added_to head points) + length rest) (omega arith) counted.opened
-      )
+  cut_off rest bares cut counted = (
+    (bares, record { head = way.good; goes_on = way.goes_on; cut = cut }, more_bares bares (bares_of (added_to head points) + bares) (omega arith) counted.marked),
+    more_nodes (length rest) (nodes_of (added_to head points) + length rest) (omega arith) counted.opened,
+  )
 
 -- what is finished is an answer
 pub finished_answers : (points : List Point) (steps : MarkedSteps) (s : Swept) → (points ≡ [] → s ≡ NoPlan steps) → (0 < length points → s ≡ Complete (record { points = points; last = steps })) → IsAnswer s
 finished_answers points steps s none some = by points refl
   where
-  by : (ps : List Point) → points ≡ ps → IsAnswer s
-  by [] e = subst (λ (x : Swept). IsAnswer x) (sym (none e)) tt
-  by (p ∷ ps) e = subst (λ (x : Swept). IsAnswer x) (sym (some (omega (arith, ap length e)))) tt
+    by : (ps : List Point) → points ≡ ps → IsAnswer s
+    by [] e = subst (λ (x : Swept). IsAnswer x) (sym (none e)) tt
+    by (p ∷ ps) e = subst (λ (x : Swept). IsAnswer x) (sym (some (omega (arith, ap length e)))) tt

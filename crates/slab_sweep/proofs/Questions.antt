@@ -1,6 +1,6 @@
 -- What one question's tree shows when its run has ended.
-use Rattle.std.proofs.Common.{◌≡◌, ℕ, ◌+◌, ◌-◌, ◌<◌, ◌≤◌, ℤ, Bool, true, List, [], ◌++◌, length, map, replicate, refl, sym, ap, subst, ◌∙◌, inl, inr, arith, Option, Some, None, length-append}
-use Rattle.std.specs.Prelude.{◌⊎◌, min}
+use Rattle.std.proofs.Common.{◌≡◌, ℕ, ◌+◌, ◌-◌, ◌≤◌, ℤ, Bool, List, [], length, map, replicate, refl, sym, ap, subst, ◌∙◌, inl, inr, arith, Option, Some, None, length-append}
+use Rattle.std.specs.Prelude.{◌⊎◌}
 use Rattle.std.proofs.lemmas.Bool.{cases_lt}
 use Rattle.std.proofs.lemmas.List.{length-map, length-replicate}
 use Rattle.slab_counter.specs.Counter.{last_count}
@@ -8,12 +8,9 @@ use Rattle.mill_model.specs.declared.ask.Ask.{Ask}
 use Rattle.mill_model.specs.declared.limits.Limits.{Limits}
 use Rattle.mill_model.specs.Mill.{Mill}
 use Rattle.mill_model.specs.Plans.{Plan, sums_of}
-use Rattle.mill_model.specs.Trees.{most_nodes}
 use Rattle.mill_model.specs.Marks.{MarkedSteps}
 use Rattle.slab_node.specs.Tallies.{AreNoLess, HasCause, HaveCauses}
 use Rattle.slab_node.specs.declared.tally.Tally.{Tally}
-use Rattle.slab_tree.specs.declared.node.Node.{Node}
-use Rattle.slab_tree.specs.declared.tree.Phase.{Phase}
 use Rattle.slab_tree.specs.declared.tree.Phase.TheVariants.{Refused}
 use Rattle.slab_tree.specs.Counts.{Counts, AreRaised}
 use Rattle.slab_tree.specs.Marking.{ShowsCoverUnlessBare, bare_marks}

@@ -1,5 +1,5 @@
 -- Where the next point goes.
-use Rattle.std.specs.Prelude.{Bool, eqb, if◌then◌else◌, List, [], ◌∷◌}
+use Rattle.std.specs.Prelude.{eqb, if◌then◌else◌, List, [], ◌∷◌}
 use Rattle.mill_model.specs.Fronts.{Point}
 
 -- A point of the last one's loss takes its place, with the last one's tree; another one comes after it.

@@ -6,8 +6,8 @@
 
 mod points;
 mod question;
-mod swept;
 mod sweeping;
+mod swept;
 
-pub use swept::Swept;
 pub use sweeping::sweep;
+pub use swept::Swept;

@@ -1,4 +1,4 @@
-use Rattle.std.proofs.Common.{◌≡◌, ℕ, ℤ, pos, ◌-ℤ◌, length, ◌-◌, refl, ap, arith}
+use Rattle.std.proofs.Common.{◌≡◌, pos, length, ◌-◌, refl, ap, arith}
 use Rattle.std.proofs.lemmas.Int.{ints}
 use Rattle.mill_model.specs.declared.sums.Sums.{Sums}
 use Rattle.slab_sweep.proofs.Heads.{limit_at}

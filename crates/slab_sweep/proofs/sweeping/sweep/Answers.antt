@@ -1,4 +1,4 @@
-use Rattle.std.proofs.Common.{◌≡◌, ◌∙◌, ◌<◌, ℕ, length, refl, sym, ap, subst, arith, Option, ℤ, List, None}
+use Rattle.std.proofs.Common.{◌≡◌, ◌∙◌, ◌<◌, ℕ, length, refl, sym, ap, subst, arith, List, None}
 use Rattle.mill_model.specs.Fronts.{Point, last_sums}
 use Rattle.mill_model.specs.Starts.{IsAsTold}
 use Rattle.slab_columns.specs.Pool.{Pool}
@@ -18,13 +18,12 @@ use Rattle.slab_sweep.proofs.Progress.{at_first, few_so_far, few_after, have_cau
 use Rattle.slab_sweep.proofs.sweeping.sweep.Goals as goal
 
 pub questions-init : goal.questions-init
-questions-init g c =
-    (
-      subst (λ (ps : List Point). IsUnderWay (g.T.Starter.told c.args.starter.now) c.args.mill.now c.args.head ps c.args.nodes.now c.args.nodes.now c.args.tally.now c.args.tally.now) (sym c.into_points-points.ensures)
+questions-init g c = (
+  subst (λ (ps : List Point). IsUnderWay (g.T.Starter.told c.args.starter.now) c.args.mill.now c.args.head ps c.args.nodes.now c.args.nodes.now c.args.tally.now c.args.tally.now) (sym c.into_points-points.ensures)
       (at_first (g.T.Starter.told c.args.starter.now) c.args.mill.now c.args.head c.args.nodes.now c.args.tally.now c.requires.head),
-       ap (λ (p : Pool). p.mill) c.in_ok-pool.ensures,
-      refl
-    )
+  ap (λ (p : Pool). p.mill) c.in_ok-pool.ensures,
+  refl,
+)
 
 pub returns-in_err-best-clause-opens : goal.returns-in_err-best-clause-opens
 returns-in_err-best-clause-opens g c = few_so_far c.questions.invariant.0
@@ -54,7 +53,7 @@ pub returns-in_err-point-clause-tells : goal.returns-in_err-point-clause-tells
 returns-in_err-point-clause-tells g c = c.start.ensures.tells ∙ c.questions.invariant.2
 
 pub questions-smaller : goal.questions-smaller
-questions-smaller g c = 
+questions-smaller g c =
     let count : c.count_limit-count.result ≡ count_after (last_sums None c.questions.points.items) = c.count_limit-count.ensures.value ∙ ap (λ (ps : List Point). count_after (last_sums None ps)) c.deref.ensures.value in
     let as_told : IsAsTold (g.T.Starter.told c.args.starter.now) c.args.mill.now c.count_limit-count.result c.in_ok-best.best = subst (λ (t : Telling). IsAsTold t c.args.mill.now c.count_limit-count.result c.in_ok-best.best) c.questions.invariant.2 c.in_ok-best.ensures.as_told in
     let answer : IsFound c.args.mill.now (opening_of c.args.mill.now c.count_limit-count.result c.in_ok-best.best) c.in-Found.point × KeepsBest c.args.mill.now c.count_limit-count.result c.in_ok-best.best c.in-Found.point.plan × AreCounted (length c.in-Found.point.steps.steps) (bare_marks c.in-Found.point.steps.marks) c.questions.nodes c.ask.new.nodes c.questions.tally c.ask.new.tally = subst (λ (a : Answer). IsAnswered c.args.mill.now c.count_limit-count.result c.in_ok-best.best c.questions.nodes c.ask.new.nodes c.questions.tally c.ask.new.tally a) c.in-Found.is c.in_ok-point.ensures.answer in
@@ -62,16 +61,15 @@ questions-smaller g c =
     (omega (arith, fewer_left (g.T.Starter.told c.args.starter.now) c.args.mill.now c.questions.points.items c.in-Found.point (found_opens (g.T.Starter.told c.args.starter.now) c.args.mill.now (last_sums None c.questions.points.items) c.count_limit-count.result c.in_ok-best.best count as_told c.in-Found.point answer.0)))
 
 pub questions-preserved : goal.questions-preserved
-questions-preserved g c = 
+questions-preserved g c =
     let count : c.count_limit-count.result ≡ count_after (last_sums None c.questions.points.items) = c.count_limit-count.ensures.value ∙ ap (λ (ps : List Point). count_after (last_sums None ps)) c.deref.ensures.value in
     let as_told : IsAsTold (g.T.Starter.told c.args.starter.now) c.args.mill.now c.count_limit-count.result c.in_ok-best.best = subst (λ (t : Telling). IsAsTold t c.args.mill.now c.count_limit-count.result c.in_ok-best.best) c.questions.invariant.2 c.in_ok-best.ensures.as_told in
-    let answer : IsFound c.args.mill.now (opening_of c.args.mill.now c.count_limit-count.result c.in_ok-best.best) c.in-Found.point × KeepsBest c.args.mill.now c.count_limit-count.result c.in_ok-best.best c.in-Found.point.plan × AreCounted (length c.in-Found.point.steps.steps) (bare_marks c.in-Found.point.steps.marks) c.questions.nodes c.ask.new.nodes c.questions.tally c.ask.new.tally = subst (λ (a : Answer). IsAnswered c.args.mill.now c.count_limit-count.result c.in_ok-best.best c.questions.nodes c.ask.new.nodes c.questions.tally c.ask.new.tally a) c.in-Found.is c.in_ok-point.ensures.answer in
-    (
+    let answer : IsFound c.args.mill.now (opening_of c.args.mill.now c.count_limit-count.result c.in_ok-best.best) c.in-Found.point × KeepsBest c.args.mill.now c.count_limit-count.result c.in_ok-best.best c.in-Found.point.plan × AreCounted (length c.in-Found.point.steps.steps) (bare_marks c.in-Found.point.steps.marks) c.questions.nodes c.ask.new.nodes c.questions.tally c.ask.new.tally = subst (λ (a : Answer). IsAnswered c.args.mill.now c.count_limit-count.result c.in_ok-best.best c.questions.nodes c.ask.new.nodes c.questions.tally c.ask.new.tally a) c.in-Found.is c.in_ok-point.ensures.answer in (
       subst (λ (ps : List Point). IsUnderWay (g.T.Starter.told c.args.starter.now) c.args.mill.now c.args.head ps c.args.nodes.now c.ask.new.nodes c.args.tally.now c.ask.new.tally) (sym c.in_ok-place-in-Found.ensures)
-      (goes_on c.questions.invariant.0 c.ask.ensures.opens c.ask.ensures.counters c.in-Found.point c.ask.ensures.causes (found_opens (g.T.Starter.told c.args.starter.now) c.args.mill.now (last_sums None c.questions.points.items) c.count_limit-count.result c.in_ok-best.best count as_told c.in-Found.point answer.0) answer.2
-      (λ t empty. plainly_placed (g.T.Starter.told c.args.starter.now) c.args.mill.now t c.count_limit-count.result c.in_ok-best.best as_told c.args.nodes.now c.questions.nodes c.questions.points.items c.in-Found.point c.ask.new.nodes c.orders-orders.ensures.limits c.in_ok-best.ensures.legal (c.questions.invariant.0.plainly t empty) count answer.0 answer.1 (c.in_ok-point.ensures.one (plainly_opens (g.T.Starter.told c.args.starter.now) c.args.mill.now t c.count_limit-count.result c.in_ok-best.best as_told c.args.nodes.now c.questions.nodes c.questions.points.items (c.questions.invariant.0.plainly t empty) count)))),
+          (goes_on c.questions.invariant.0 c.ask.ensures.opens c.ask.ensures.counters c.in-Found.point c.ask.ensures.causes (found_opens (g.T.Starter.told c.args.starter.now) c.args.mill.now (last_sums None c.questions.points.items) c.count_limit-count.result c.in_ok-best.best count as_told c.in-Found.point answer.0) answer.2
+          (λ t empty. plainly_placed (g.T.Starter.told c.args.starter.now) c.args.mill.now t c.count_limit-count.result c.in_ok-best.best as_told c.args.nodes.now c.questions.nodes c.questions.points.items c.in-Found.point c.ask.new.nodes c.orders-orders.ensures.limits c.in_ok-best.ensures.legal (c.questions.invariant.0.plainly t empty) count answer.0 answer.1 (c.in_ok-point.ensures.one (plainly_opens (g.T.Starter.told c.args.starter.now) c.args.mill.now t c.count_limit-count.result c.in_ok-best.best as_told c.args.nodes.now c.questions.nodes c.questions.points.items (c.questions.invariant.0.plainly t empty) count)))),
       c.ask.ensures.pool,
-      c.start.ensures.tells ∙ c.questions.invariant.2
+      c.start.ensures.tells ∙ c.questions.invariant.2,
     )
 
 pub returns-in_err-place-in-Found-clause-opens : goal.returns-in_err-place-in-Found-clause-opens
@@ -87,14 +85,14 @@ pub returns-in_err-place-in-Found-clause-tells : goal.returns-in_err-place-in-Fo
 returns-in_err-place-in-Found-clause-tells g c = c.start.ensures.tells ∙ c.questions.invariant.2
 
 pub returns-in-Nothing-clause-swept : goal.returns-in-Nothing-clause-swept
-returns-in-Nothing-clause-swept g c = 
+returns-in-Nothing-clause-swept g c =
     let count : c.count_limit-count.result ≡ count_after (last_sums None c.questions.points.items) = c.count_limit-count.ensures.value ∙ ap (λ (ps : List Point). count_after (last_sums None ps)) c.deref.ensures.value in
     let as_told : IsAsTold (g.T.Starter.told c.args.starter.now) c.args.mill.now c.count_limit-count.result c.in_ok-best.best = subst (λ (t : Telling). IsAsTold t c.args.mill.now c.count_limit-count.result c.in_ok-best.best) c.questions.invariant.2 c.in_ok-best.ensures.as_told in
     let answer : IsNothing c.args.mill.now (opening_of c.args.mill.now c.count_limit-count.result c.in_ok-best.best) c.in-Nothing.steps × AreCounted (length c.in-Nothing.steps.steps) (bare_marks c.in-Nothing.steps.marks) c.questions.nodes c.ask.new.nodes c.questions.tally c.ask.new.tally = subst (λ (a : Answer). IsAnswered c.args.mill.now c.count_limit-count.result c.in_ok-best.best c.questions.nodes c.ask.new.nodes c.questions.tally c.ask.new.tally a) c.in-Nothing.is c.in_ok-point.ensures.answer in
     (ended c.questions.invariant.0 c.ask.ensures.opens c.ask.ensures.counters c.in-Nothing.steps c.finished.result (nothing_opens (g.T.Starter.told c.args.starter.now) c.args.mill.now (last_sums None c.questions.points.items) c.count_limit-count.result c.in_ok-best.best count as_told c.in-Nothing.steps answer.0) answer.1 c.finished.ensures.none c.finished.ensures.some).0
 
 pub returns-in-Nothing-clause-made : goal.returns-in-Nothing-clause-made
-returns-in-Nothing-clause-made g c = 
+returns-in-Nothing-clause-made g c =
     let count : c.count_limit-count.result ≡ count_after (last_sums None c.questions.points.items) = c.count_limit-count.ensures.value ∙ ap (λ (ps : List Point). count_after (last_sums None ps)) c.deref.ensures.value in
     let as_told : IsAsTold (g.T.Starter.told c.args.starter.now) c.args.mill.now c.count_limit-count.result c.in_ok-best.best = subst (λ (t : Telling). IsAsTold t c.args.mill.now c.count_limit-count.result c.in_ok-best.best) c.questions.invariant.2 c.in_ok-best.ensures.as_told in
     let answer : IsNothing c.args.mill.now (opening_of c.args.mill.now c.count_limit-count.result c.in_ok-best.best) c.in-Nothing.steps × AreCounted (length c.in-Nothing.steps.steps) (bare_marks c.in-Nothing.steps.marks) c.questions.nodes c.ask.new.nodes c.questions.tally c.ask.new.tally = subst (λ (a : Answer). IsAnswered c.args.mill.now c.count_limit-count.result c.in_ok-best.best c.questions.nodes c.ask.new.nodes c.questions.tally c.ask.new.tally a) c.in-Nothing.is c.in_ok-point.ensures.answer in
@@ -104,7 +102,7 @@ pub returns-in-Nothing-clause-plain : goal.returns-in-Nothing-clause-plain
 returns-in-Nothing-clause-plain g c = λ t empty. finished_answers c.questions.points.items c.in-Nothing.steps c.finished.result c.finished.ensures.none c.finished.ensures.some
 
 pub returns-in-Nothing-clause-two : goal.returns-in-Nothing-clause-two
-returns-in-Nothing-clause-two g c = 
+returns-in-Nothing-clause-two g c =
     let count : c.count_limit-count.result ≡ count_after (last_sums None c.questions.points.items) = c.count_limit-count.ensures.value ∙ ap (λ (ps : List Point). count_after (last_sums None ps)) c.deref.ensures.value in
     let as_told : IsAsTold (g.T.Starter.told c.args.starter.now) c.args.mill.now c.count_limit-count.result c.in_ok-best.best = subst (λ (t : Telling). IsAsTold t c.args.mill.now c.count_limit-count.result c.in_ok-best.best) c.questions.invariant.2 c.in_ok-best.ensures.as_told in
     λ t empty. omega (arith, c.in_ok-point.ensures.one (plainly_opens (g.T.Starter.told c.args.starter.now) c.args.mill.now t c.count_limit-count.result c.in_ok-best.best as_told c.args.nodes.now c.questions.nodes c.questions.points.items (c.questions.invariant.0.plainly t empty) count), plainly_one c.args.mill.now t.plan c.questions.points.items c.args.nodes.now c.questions.nodes (c.questions.invariant.0.plainly t empty))
@@ -122,7 +120,7 @@ pub returns-in-Nothing-clause-tells : goal.returns-in-Nothing-clause-tells
 returns-in-Nothing-clause-tells g c = c.start.ensures.tells ∙ c.questions.invariant.2
 
 pub returns-in-Cut-clause-swept : goal.returns-in-Cut-clause-swept
-returns-in-Cut-clause-swept g c = 
+returns-in-Cut-clause-swept g c =
     let count : c.count_limit-count.result ≡ count_after (last_sums None c.questions.points.items) = c.count_limit-count.ensures.value ∙ ap (λ (ps : List Point). count_after (last_sums None ps)) c.deref.ensures.value in
     let as_told : IsAsTold (g.T.Starter.told c.args.starter.now) c.args.mill.now c.count_limit-count.result c.in_ok-best.best = subst (λ (t : Telling). IsAsTold t c.args.mill.now c.count_limit-count.result c.in_ok-best.best) c.questions.invariant.2 c.in_ok-best.ensures.as_told in
     let answer : (bares : ℕ) × IsCut c.args.mill.now (opening_of c.args.mill.now c.count_limit-count.result c.in_ok-best.best) c.questions.nodes.limit bares c.questions.tally c.ask.new.tally c.in-Cut.open_tree × AreCounted (length c.in-Cut.open_tree) bares c.questions.nodes c.ask.new.nodes c.questions.tally c.ask.new.tally = subst (λ (a : Answer). IsAnswered c.args.mill.now c.count_limit-count.result c.in_ok-best.best c.questions.nodes c.ask.new.nodes c.questions.tally c.ask.new.tally a) c.in-Cut.is c.in_ok-point.ensures.answer in
@@ -130,7 +128,7 @@ returns-in-Cut-clause-swept g c =
     subst (λ (ps : List Point). IsSwept (g.T.Starter.told c.args.starter.now) c.args.mill.now c.args.head c.args.nodes.now c.ask.new.nodes c.args.tally.now c.ask.new.tally (Budget ps c.in-Cut.open_tree)) (sym c.new-in-Cut.ensures) ((cut_off c.questions.invariant.0 c.ask.ensures.opens c.ask.ensures.counters c.in-Cut.open_tree answer.0 cut answer.2).0)
 
 pub returns-in-Cut-clause-made : goal.returns-in-Cut-clause-made
-returns-in-Cut-clause-made g c = 
+returns-in-Cut-clause-made g c =
     let count : c.count_limit-count.result ≡ count_after (last_sums None c.questions.points.items) = c.count_limit-count.ensures.value ∙ ap (λ (ps : List Point). count_after (last_sums None ps)) c.deref.ensures.value in
     let as_told : IsAsTold (g.T.Starter.told c.args.starter.now) c.args.mill.now c.count_limit-count.result c.in_ok-best.best = subst (λ (t : Telling). IsAsTold t c.args.mill.now c.count_limit-count.result c.in_ok-best.best) c.questions.invariant.2 c.in_ok-best.ensures.as_told in
     let answer : (bares : ℕ) × IsCut c.args.mill.now (opening_of c.args.mill.now c.count_limit-count.result c.in_ok-best.best) c.questions.nodes.limit bares c.questions.tally c.ask.new.tally c.in-Cut.open_tree × AreCounted (length c.in-Cut.open_tree) bares c.questions.nodes c.ask.new.nodes c.questions.tally c.ask.new.tally = subst (λ (a : Answer). IsAnswered c.args.mill.now c.count_limit-count.result c.in_ok-best.best c.questions.nodes c.ask.new.nodes c.questions.tally c.ask.new.tally a) c.in-Cut.is c.in_ok-point.ensures.answer in
@@ -138,13 +136,13 @@ returns-in-Cut-clause-made g c =
     subst (λ (ps : List Point). CountsNodes (made_nodes c.args.head (Budget ps c.in-Cut.open_tree)) c.args.nodes.now c.ask.new.nodes) (sym c.new-in-Cut.ensures) ((cut_off c.questions.invariant.0 c.ask.ensures.opens c.ask.ensures.counters c.in-Cut.open_tree answer.0 cut answer.2).1)
 
 pub returns-in-Cut-clause-plain : goal.returns-in-Cut-clause-plain
-returns-in-Cut-clause-plain g c = 
+returns-in-Cut-clause-plain g c =
     let count : c.count_limit-count.result ≡ count_after (last_sums None c.questions.points.items) = c.count_limit-count.ensures.value ∙ ap (λ (ps : List Point). count_after (last_sums None ps)) c.deref.ensures.value in
     let as_told : IsAsTold (g.T.Starter.told c.args.starter.now) c.args.mill.now c.count_limit-count.result c.in_ok-best.best = subst (λ (t : Telling). IsAsTold t c.args.mill.now c.count_limit-count.result c.in_ok-best.best) c.questions.invariant.2 c.in_ok-best.ensures.as_told in
     λ t empty. subst (λ (a : Answer). IsClosedAnswer a) c.in-Cut.is (c.in_ok-point.ensures.plain (plainly_opens (g.T.Starter.told c.args.starter.now) c.args.mill.now t c.count_limit-count.result c.in_ok-best.best as_told c.args.nodes.now c.questions.nodes c.questions.points.items (c.questions.invariant.0.plainly t empty) count))
 
 pub returns-in-Cut-clause-two : goal.returns-in-Cut-clause-two
-returns-in-Cut-clause-two g c = 
+returns-in-Cut-clause-two g c =
     let count : c.count_limit-count.result ≡ count_after (last_sums None c.questions.points.items) = c.count_limit-count.ensures.value ∙ ap (λ (ps : List Point). count_after (last_sums None ps)) c.deref.ensures.value in
     let as_told : IsAsTold (g.T.Starter.told c.args.starter.now) c.args.mill.now c.count_limit-count.result c.in_ok-best.best = subst (λ (t : Telling). IsAsTold t c.args.mill.now c.count_limit-count.result c.in_ok-best.best) c.questions.invariant.2 c.in_ok-best.ensures.as_told in
     λ t empty. omega (arith, c.in_ok-point.ensures.one (plainly_opens (g.T.Starter.told c.args.starter.now) c.args.mill.now t c.count_limit-count.result c.in_ok-best.best as_told c.args.nodes.now c.questions.nodes c.questions.points.items (c.questions.invariant.0.plainly t empty) count), plainly_one c.args.mill.now t.plan c.questions.points.items c.args.nodes.now c.questions.nodes (c.questions.invariant.0.plainly t empty))
