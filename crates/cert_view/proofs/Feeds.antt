@@ -1,5 +1,5 @@
 -- Lines and their texts, with the line feeds that end them.
-use Rattle.std.proofs.Common.{◌≡◌, ℕ, suc, ◌+◌, ◌*◌, ◌≤◌, ◌<◌, ℤ, pos, negsuc, Bool, true, not, cond, ltb, List, [], ◌∷◌, ◌++◌, Option, Some, Result, Ok, Err, length, get_or, refl, ap, sym, ◌∙◌, inl, inr, arith, subst, min, length-append}
+use Rattle.std.proofs.Common.{◌≡◌, ℕ, suc, ◌+◌, ◌*◌, ◌≤◌, ◌<◌, ℤ, pos, negsuc, Bool, true, not, cond, ltb, List, [], ◌∷◌, ◌++◌, Option, Some, Result, Ok, Err, length, get_or, refl, ap, sym, ◌∙◌, inl, inr, arith, subst, min, length-append, lit≤}
 use Rattle.std.specs.List.{list_all, before_first, after_first, position_or_len, AllByRecursion}
 use Rattle.std.specs.Char.{is_ascii_digit}
 use Rattle.std.specs.Fmt.{decimal, signed_decimal}
@@ -15,7 +15,7 @@ use Rattle.cert_view.specs.declared.line.Spelling.{Spelling}
 use Rattle.cert_view.specs.declared.line.Spelling.TheVariants as spellings
 use Rattle.cert_view.specs.Number.{IsWithin}
 use Rattle.cert_view.specs.Line.{line_of, is_feed, next_line, after_line}
-use Rattle.cert_view.specs.Text.{numbers_text, line_text, line_numbers, IsLine}
+use Rattle.cert_view.specs.Text.{numbers_text, line_text, line_word, line_numbers, IsLine}
 use Rattle.cert_view.specs.Laws.{BeginsWith, TextIsRead, ReadIsText, TextIsShort}
 use Rattle.cert_view.proofs.Words.{both, either}
 use Rattle.cert_view.proofs.Lines.{some_injective, some_apart}
@@ -43,18 +43,29 @@ numbers_no_feed [] h = refl
 numbers_no_feed (n ∷ ns) h =
     rw (list_all-append no_feed (signed_decimal n) (numbers_text ns)) (rw (number_no_feed n h.0) (numbers_no_feed ns h.1))
 
+-- no line feed stands before a line's numbers
+word_no_feed : (l : Line) → list_all no_feed (line_word l) ≡ true
+word_no_feed lines.Header = refl
+word_no_feed lines.Header2 = refl
+word_no_feed (lines.Point ns) = refl
+word_no_feed (lines.New ns) = refl
+word_no_feed (lines.Old ns) = refl
+word_no_feed (lines.Pair ns) = refl
+word_no_feed (lines.Put ns) = refl
+word_no_feed (lines.Leaf ns) = refl
+word_no_feed lines.Done = refl
+word_no_feed lines.Cut = refl
+word_no_feed lines.Open = refl
+word_no_feed lines.Bare = refl
+word_no_feed lines.Plain = refl
+word_no_feed (lines.Spread ns) = refl
+word_no_feed (lines.CNew ns) = refl
+word_no_feed (lines.COld ns) = refl
+
 -- no line feed stands within a line's text
 line_no_feed : (l : Line) → AllByRecursion IsWithin (line_numbers l) → list_all no_feed (line_text l) ≡ true
-line_no_feed lines.Header h = refl
-line_no_feed (lines.Point ns) h = numbers_no_feed ns h
-line_no_feed (lines.New ns) h = numbers_no_feed ns h
-line_no_feed (lines.Old ns) h = numbers_no_feed ns h
-line_no_feed (lines.Pair ns) h = numbers_no_feed ns h
-line_no_feed (lines.Put ns) h = numbers_no_feed ns h
-line_no_feed (lines.Leaf ns) h = numbers_no_feed ns h
-line_no_feed lines.Done h = refl
-line_no_feed lines.Cut h = refl
-line_no_feed lines.Open h = refl
+line_no_feed l h =
+    rw (list_all-append no_feed (line_word l) (numbers_text (line_numbers l))) (rw (word_no_feed l, numbers_no_feed (line_numbers l) h) refl)
 
 -- what stands before and after the first element that passes
 record IsCutAt (p : ℕ → Bool) (xs ys zs : List ℕ) : Type 0 where
@@ -75,7 +86,7 @@ cut_at p (x ∷ xs) y ys h passes =
       after = rw (parts.0, next) (rw past rest.after);
     }
 
-next_line-some : (bytes : List ℕ) → 0 < length bytes → next_line bytes ≡ Some (cond (ltb (position_or_len is_feed bytes) (min (length bytes) 8192)) (line_of (before_first is_feed bytes)) (Err spellings.Form))
+pub next_line-some : (bytes : List ℕ) → 0 < length bytes → next_line bytes ≡ Some (cond (ltb (position_or_len is_feed bytes) (min (length bytes) 8192)) (line_of (before_first is_feed bytes)) (Err spellings.Form))
 unfolding next_line
 next_line-some [] some = absurd (omega arith)
 next_line-some (b ∷ bytes) some = refl
@@ -127,17 +138,27 @@ numbers_short : (ns : List ℤ) → AllByRecursion IsWithin ns → length (numbe
 numbers_short [] h = omega arith
 numbers_short (n ∷ ns) h = omega (arith, length-append (signed_decimal n) (numbers_text ns), number_short n h.0, numbers_short ns h.1)
 
-short_from_recursion : (line : Line) → AllByRecursion IsWithin (line_numbers line) → length (line_text line) ≤ 11 + 21 * length (line_numbers line)
-short_from_recursion lines.Header h = omega arith
-short_from_recursion (lines.Point ns) h = omega (arith, numbers_short ns h)
-short_from_recursion (lines.New ns) h = omega (arith, numbers_short ns h)
-short_from_recursion (lines.Old ns) h = omega (arith, numbers_short ns h)
-short_from_recursion (lines.Pair ns) h = omega (arith, numbers_short ns h)
-short_from_recursion (lines.Put ns) h = omega (arith, numbers_short ns h)
-short_from_recursion (lines.Leaf ns) h = omega (arith, numbers_short ns h)
-short_from_recursion lines.Done h = omega arith
-short_from_recursion lines.Cut h = omega arith
-short_from_recursion lines.Open h = omega arith
+word_short : (l : Line) → length (line_word l) ≤ 11
+word_short lines.Header = lit≤ tt
+word_short lines.Header2 = lit≤ tt
+word_short (lines.Point ns) = lit≤ tt
+word_short (lines.New ns) = lit≤ tt
+word_short (lines.Old ns) = lit≤ tt
+word_short (lines.Pair ns) = lit≤ tt
+word_short (lines.Put ns) = lit≤ tt
+word_short (lines.Leaf ns) = lit≤ tt
+word_short lines.Done = lit≤ tt
+word_short lines.Cut = lit≤ tt
+word_short lines.Open = lit≤ tt
+word_short lines.Bare = lit≤ tt
+word_short lines.Plain = lit≤ tt
+word_short (lines.Spread ns) = lit≤ tt
+word_short (lines.CNew ns) = lit≤ tt
+word_short (lines.COld ns) = lit≤ tt
+
+short_from_recursion : (l : Line) → AllByRecursion IsWithin (line_numbers l) → length (line_text l) ≤ 11 + 21 * length (line_numbers l)
+short_from_recursion l h =
+    omega (arith, length-append (line_word l) (numbers_text (line_numbers l)), word_short l, numbers_short (line_numbers l) h)
 
 pub text_is_short : TextIsShort
 text_is_short line good = short_from_recursion line (recursion_from_All IsWithin (line_numbers line) good.within)

@@ -1,10 +1,11 @@
 -- The line of a word and the words after it.
 use Rattle.std.proofs.Common.{◌≡◌, ℕ, Bool, true, false, List, Some, None, Ok, Err, length, map, refl, ap, sym, ◌∙◌, inl, inr}
 use Rattle.std.specs.List.{list_all}
-use Rattle.cert_view.specs.declared.line.Form.{Form}
+use Rattle.cert_view.specs.declared.form.Form.{Form}
 use Rattle.cert_view.specs.declared.line.Spelling.TheVariants as spellings
 use Rattle.cert_view.specs.Number.{is_number, is_within, number_value}
-use Rattle.cert_view.specs.Line.{form_of, line_with, line_of_words}
+use Rattle.cert_view.specs.Form.{form_of}
+use Rattle.cert_view.specs.Line.{line_with, line_of_words}
 use Rattle.cert_view.specs.Reading.{count_of}
 use Rattle.cert_view.specs.Numbers.{words_after, IsSpaced, AreCounted}
 use Rattle.cert_view.proofs.Words.{either, all_spelled}

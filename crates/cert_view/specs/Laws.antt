@@ -1,7 +1,8 @@
 -- What joins lines and texts.
-use Rattle.std.specs.Prelude.{◌≡◌, ℕ, ◌+◌, ◌*◌, ◌<◌, ◌≤◌, List, ◌∷◌, ◌++◌, Some, Ok, length}
+use Rattle.std.specs.Prelude.{◌≡◌, ℕ, ◌+◌, ◌*◌, ◌<◌, ◌≤◌, List, [], ◌∷◌, ◌++◌, Some, Ok, length}
 use Rattle.cert_view.specs.declared.line.Line.{Line}
 use Rattle.cert_view.specs.Line.{next_line, after_line}
+use Rattle.cert_view.specs.Held.{IsWhole}
 use Rattle.cert_view.specs.Text.{line_text, line_numbers, IsLine}
 
 -- the bytes begin with the text of this line and its line feed, and these bytes follow
@@ -21,3 +22,11 @@ ReadIsText = (line : Line) (bytes : List ℕ) → next_line bytes ≡ Some (Ok l
 -- a number and its space take at most 21 bytes
 abbrev pub TextIsShort : Type 0
 TextIsShort = (line : Line) → IsLine line → length (line_text line) ≤ 11 + 21 * length (line_numbers line)
+
+-- a whole line is read alike, whatever bytes follow it
+abbrev pub WholeIsFirst : Type 0
+WholeIsFirst = (held more : List ℕ) → IsWhole held → next_line (held ++ more) ≡ next_line held
+
+-- a whole line that is read is the text of the line with its line feed, and no byte more
+abbrev pub WholeIsText : Type 0
+WholeIsText = (held : List ℕ) (line : Line) → IsWhole held → next_line held ≡ Some (Ok line) → held ≡ line_text line ++ 10 ∷ []

@@ -1,30 +1,17 @@
 -- The lines of a certificate.
-use Rattle.std.specs.Prelude.{ℕ, ℤ, ◌&&◌, ◌==◌, Bool, nat_lt, nat_le, List, [], ◌∷◌, Option, Some, None, Result, Ok, Err, if◌then◌else◌, length, codes, map, min}
+use Rattle.std.specs.Prelude.{ℕ, ℤ, ◌==◌, Bool, nat_lt, List, [], ◌∷◌, Option, Some, None, Result, Ok, Err, if◌then◌else◌, length, codes, map, min}
 use Rattle.std.specs.Str.{bytes_eq}
 use Rattle.std.specs.Option.{option_map_or}
 use Rattle.std.specs.List.{before_first, after_first, position_or_len, list_all}
-use Rattle.cert_view.specs.declared.line.Form.{Form}
-use Rattle.cert_view.specs.declared.line.Form.TheVariants as forms
+use Rattle.cert_view.specs.declared.form.Form.{Form}
+use Rattle.cert_view.specs.declared.form.Form.TheVariants as forms
 use Rattle.cert_view.specs.declared.line.Line.{Line}
 use Rattle.cert_view.specs.declared.line.Line.TheVariants as lines
 use Rattle.cert_view.specs.declared.line.Spelling.{Spelling}
 use Rattle.cert_view.specs.declared.line.Spelling.TheVariants as spellings
+use Rattle.cert_view.specs.Form.{form_of}
 use Rattle.cert_view.specs.Number.{is_number, is_within, number_value}
 use Rattle.cert_view.specs.Numbers.{first_word, words_after}
-
--- the form of a line by its first word and how many numbers follow
-unfoldable pub form_of : List ℕ → ℕ → Option Form
-form_of word count =
-    if bytes_eq word (codes "leaf") && nat_le 2 count then Some forms.Leaf
-    else (if bytes_eq word (codes "pair") && count == 2 then Some forms.Pair
-    else (if bytes_eq word (codes "put") && count == 2 then Some forms.Put
-    else (if bytes_eq word (codes "new") && nat_le 2 count then Some forms.New
-    else (if bytes_eq word (codes "old") && nat_le 2 count then Some forms.Old
-    else (if bytes_eq word (codes "point") && count == 2 then Some forms.Point
-    else (if bytes_eq word (codes "open") && count == 0 then Some forms.Open
-    else (if bytes_eq word (codes "done") && count == 0 then Some forms.Done
-    else (if bytes_eq word (codes "cut") && count == 0 then Some forms.Cut
-    else None))))))))
 
 -- the line of a form with its numbers
 abbrev pub line_with : Form → List ℤ → Line
@@ -37,6 +24,11 @@ line_with forms.Leaf ns = lines.Leaf ns
 line_with forms.Done ns = lines.Done
 line_with forms.Cut ns = lines.Cut
 line_with forms.Open ns = lines.Open
+line_with forms.Bare ns = lines.Bare
+line_with forms.Plain ns = lines.Plain
+line_with forms.Spread ns = lines.Spread ns
+line_with forms.CNew ns = lines.CNew ns
+line_with forms.COld ns = lines.COld ns
 
 -- the line that a word and the words after it are
 abbrev pub line_of_words : List ℕ → List (List ℕ) → Result Line Spelling
@@ -49,7 +41,8 @@ line_of_words word words =
 unfoldable pub line_of : List ℕ → Result Line Spelling
 line_of text =
     if bytes_eq text (codes "slabfront 1") then Ok lines.Header
-    else line_of_words (first_word text) (words_after text)
+    else (if bytes_eq text (codes "slabfront 2") then Ok lines.Header2
+    else line_of_words (first_word text) (words_after text))
 
 abbrev pub is_feed : ℕ → Bool
 is_feed b = b == 10

@@ -3,29 +3,36 @@ use Rattle.std.specs.Prelude.{◌≡◌, ℕ, ◌≤◌, ℤ, List, [], ◌∷�
 use Rattle.std.specs.List.{flat_map}
 use Rattle.std.specs.Fmt.{signed_decimal}
 use Rattle.cert_view.specs.declared.line.Line.{Line}
-use Rattle.cert_view.specs.declared.line.Line.TheVariants.{Header, Point, New, Old, Pair, Put, Leaf, Done, Cut, Open}
+use Rattle.cert_view.specs.declared.line.Line.TheVariants.{Header, Header2, Point, New, Old, Pair, Put, Leaf, Done, Cut, Open, Bare, Plain, Spread, CNew, COld}
 use Rattle.cert_view.specs.Number.{IsWithin}
 
 -- each number in decimal after one space
 abbrev pub numbers_text : List ℤ → List ℕ
 numbers_text ns = flat_map (λ n. 32 ∷ signed_decimal n) ns
 
--- the text of a line, without its line feed
-abbrev pub line_text : Line → List ℕ
-line_text Header = codes "slabfront 1"
-line_text (Point ns) = codes "point" ++ numbers_text ns
-line_text (New ns) = codes "new" ++ numbers_text ns
-line_text (Old ns) = codes "old" ++ numbers_text ns
-line_text (Pair ns) = codes "pair" ++ numbers_text ns
-line_text (Put ns) = codes "put" ++ numbers_text ns
-line_text (Leaf ns) = codes "leaf" ++ numbers_text ns
-line_text Done = codes "done"
-line_text Cut = codes "cut"
-line_text Open = codes "open"
+-- what stands before the numbers of a line
+abbrev pub line_word : Line → List ℕ
+line_word Header = codes "slabfront 1"
+line_word Header2 = codes "slabfront 2"
+line_word (Point ns) = codes "point"
+line_word (New ns) = codes "new"
+line_word (Old ns) = codes "old"
+line_word (Pair ns) = codes "pair"
+line_word (Put ns) = codes "put"
+line_word (Leaf ns) = codes "leaf"
+line_word Done = codes "done"
+line_word Cut = codes "cut"
+line_word Open = codes "open"
+line_word Bare = codes "bare"
+line_word Plain = codes "plain"
+line_word (Spread ns) = codes "spread"
+line_word (CNew ns) = codes "cnew"
+line_word (COld ns) = codes "cold"
 
 -- the numbers of a line
 abbrev pub line_numbers : Line → List ℤ
 line_numbers Header = []
+line_numbers Header2 = []
 line_numbers (Point ns) = ns
 line_numbers (New ns) = ns
 line_numbers (Old ns) = ns
@@ -35,10 +42,20 @@ line_numbers (Leaf ns) = ns
 line_numbers Done = []
 line_numbers Cut = []
 line_numbers Open = []
+line_numbers Bare = []
+line_numbers Plain = []
+line_numbers (Spread ns) = ns
+line_numbers (CNew ns) = ns
+line_numbers (COld ns) = ns
+
+-- the text of a line, without its line feed
+abbrev pub line_text : Line → List ℕ
+line_text line = line_word line ++ numbers_text (line_numbers line)
 
 -- the line has as many numbers as its form wants
 abbrev pub HasItsCount : Line → Type 0
 HasItsCount Header = Unit {0}
+HasItsCount Header2 = Unit {0}
 HasItsCount (Point ns) = length ns ≡ 2
 HasItsCount (New ns) = 2 ≤ length ns
 HasItsCount (Old ns) = 2 ≤ length ns
@@ -48,6 +65,11 @@ HasItsCount (Leaf ns) = 2 ≤ length ns
 HasItsCount Done = Unit {0}
 HasItsCount Cut = Unit {0}
 HasItsCount Open = Unit {0}
+HasItsCount Bare = Unit {0}
+HasItsCount Plain = Unit {0}
+HasItsCount (Spread ns) = length ns ≡ 1
+HasItsCount (CNew ns) = 3 ≤ length ns
+HasItsCount (COld ns) = 3 ≤ length ns
 
 -- a line that a certificate can have: as many numbers as its form wants, each in the range
 pub record IsLine (line : Line) : Type 0 where

@@ -1,10 +1,11 @@
-//! The forms of a line.
+//! A line of a certificate, and how its text is read.
 ghost use Rattle.std.specs.Prelude.{◌≡◌, ◌≤◌, ◌==◌, length, IfOk};
 ghost use Rattle.std.specs.List.{position_or_len};
-ghost use Rattle.cert_view.specs.Line.{form_of, line_with, line_of, line_of_words};
+ghost use Rattle.cert_view.specs.Line.{line_of, line_of_words, line_with};
 ghost use Rattle.cert_view.specs.Numbers.{first_word, words_after, IsSpaced};
 ghost use Rattle.cert_view.specs.Text.{IsLine};
 
+use crate::form::{Form, form_of};
 use crate::nums::{Nums, count_numbers};
 use thiserror::Error;
 
@@ -12,8 +13,10 @@ use thiserror::Error;
 /// stand in the text.
 #[derive(Drop)]
 pub enum Line<'a> {
-    /// `slabfront 1`, the first line of a certificate.
+    /// `slabfront 1`, the first line of a certificate whose splits have no marks.
     Header,
+    /// `slabfront 2`, the first line of a certificate whose splits have marks.
+    Header2,
     /// `point L C`: the loss and the number of new slabs of a point.
     Point(Nums<'a>),
     /// `new u o..`: a new slab of size u, and its orders, at least one.
@@ -32,6 +35,16 @@ pub enum Line<'a> {
     Cut,
     /// `open`: an end of the open tree.
     Open,
+    /// `bare`: the mark of a split for which neither prices nor a cover were found.
+    Bare,
+    /// `plain`: the mark of a split that claims nothing.
+    Plain,
+    /// `spread d`: the mark of a split with a cover, and the denominator of its multipliers.
+    Spread(Nums<'a>),
+    /// `cnew x u o..`: a share of a cover: its multiplier, the size of a new slab, and its orders, at least one.
+    CNew(Nums<'a>),
+    /// `cold x s o..`: a share of a cover: its multiplier, a surplus slab, and its orders, at least one.
+    COld(Nums<'a>),
 }
 
 /// Why a line can't be read.
@@ -45,20 +58,6 @@ pub enum Spelling {
     Range,
 }
 
-/// A form of a line of a word and numbers.
-#[derive(Clone, Copy)]
-enum Form {
-    Point,
-    New,
-    Old,
-    Pair,
-    Put,
-    Leaf,
-    Done,
-    Cut,
-    Open,
-}
-
 // The line that a text is, without its line feed.
 #[tactic(auto, unfolding(crate::specs::Line::line_of))]
 pub(crate) fn read_line(text: &[u8]) -> Result<Line<'_>, Spelling>
@@ -66,9 +65,12 @@ pub(crate) fn read_line(text: &[u8]) -> Result<Line<'_>, Spelling>
     ensures good { IfOk result IsLine }
 {
     if text == b"slabfront 1".as_slice() {
-        return Ok(Line::Header);
+        Ok(Line::Header)
+    } else if text == b"slabfront 2".as_slice() {
+        Ok(Line::Header2)
+    } else {
+        read_words(text)
     }
-    read_words(text)
 }
 
 // The line that a text of a word and numbers is.
@@ -88,34 +90,6 @@ fn read_words(text: &[u8]) -> Result<Line<'_>, Spelling>
     Ok(line_with(form, Nums::new(after, count)))
 }
 
-// The form of a line by its first word and how many numbers follow.
-#[tactic(auto, unfolding(crate::specs::Line::form_of))]
-fn form_of(word: &[u8], count: usize) -> Option<Form>
-    ensures { result ≡ form_of word.now count }
-{
-    if word == b"leaf".as_slice() && 2 <= count {
-        Some(Form::Leaf)
-    } else if word == b"pair".as_slice() && count == 2 {
-        Some(Form::Pair)
-    } else if word == b"put".as_slice() && count == 2 {
-        Some(Form::Put)
-    } else if word == b"new".as_slice() && 2 <= count {
-        Some(Form::New)
-    } else if word == b"old".as_slice() && 2 <= count {
-        Some(Form::Old)
-    } else if word == b"point".as_slice() && count == 2 {
-        Some(Form::Point)
-    } else if word == b"open".as_slice() && count == 0 {
-        Some(Form::Open)
-    } else if word == b"done".as_slice() && count == 0 {
-        Some(Form::Done)
-    } else if word == b"cut".as_slice() && count == 0 {
-        Some(Form::Cut)
-    } else {
-        None
-    }
-}
-
 // The line of a form with its numbers.
 fn line_with(form: Form, numbers: Nums<'_>) -> Line<'_>
     ensures { result ≡ line_with form numbers.entry }
@@ -130,6 +104,11 @@ fn line_with(form: Form, numbers: Nums<'_>) -> Line<'_>
         Form::Done => Line::Done,
         Form::Cut => Line::Cut,
         Form::Open => Line::Open,
+        Form::Bare => Line::Bare,
+        Form::Plain => Line::Plain,
+        Form::Spread => Line::Spread(numbers),
+        Form::CNew => Line::CNew(numbers),
+        Form::COld => Line::COld(numbers),
     }
 }
 

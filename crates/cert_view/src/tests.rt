@@ -1,6 +1,6 @@
 //! Lines that a reader of the format can check by hand.
 
-use crate::{CertView, Line, Nums, Spelling};
+use crate::{CertView, Line, LineBuf, Nums, Spelling};
 use std::process::Abort;
 
 /// What the first line of a text is read as.
@@ -13,6 +13,7 @@ enum Want {
 fn name_of(line: &Line<'_>) -> &'static str {
     match line {
         Line::Header => "slabfront 1",
+        Line::Header2 => "slabfront 2",
         Line::Point(_) => "point",
         Line::New(_) => "new",
         Line::Old(_) => "old",
@@ -22,6 +23,11 @@ fn name_of(line: &Line<'_>) -> &'static str {
         Line::Done => "done",
         Line::Cut => "cut",
         Line::Open => "open",
+        Line::Bare => "bare",
+        Line::Plain => "plain",
+        Line::Spread(_) => "spread",
+        Line::CNew(_) => "cnew",
+        Line::COld(_) => "cold",
     }
 }
 
@@ -32,8 +38,17 @@ fn numbers_of<'b, 'a>(line: &'b Line<'a>) -> Option<&'b Nums<'a>> {
         | Line::Old(numbers)
         | Line::Pair(numbers)
         | Line::Put(numbers)
-        | Line::Leaf(numbers) => Some(numbers),
-        Line::Header | Line::Done | Line::Cut | Line::Open => None,
+        | Line::Leaf(numbers)
+        | Line::Spread(numbers)
+        | Line::CNew(numbers)
+        | Line::COld(numbers) => Some(numbers),
+        Line::Header
+        | Line::Header2
+        | Line::Done
+        | Line::Cut
+        | Line::Open
+        | Line::Bare
+        | Line::Plain => None,
     }
 }
 
@@ -73,7 +88,7 @@ fn assert_read(rt: &impl Abort, text: &[u8], want: &Want) {
 
 #[test]
 fn lines_are_read(rt: HostRuntime) {
-    let rows: [(&[u8], Want); 27] = [
+    let rows: [(&[u8], Want); 36] = [
         (
             b"slabfront 1\n".as_slice(),
             Want::Line("slabfront 1", [].as_slice()),
@@ -106,6 +121,24 @@ fn lines_are_read(rt: HostRuntime) {
         (b"cut\n".as_slice(), Want::Line("cut", [].as_slice())),
         (b"open\n".as_slice(), Want::Line("open", [].as_slice())),
         (
+            b"slabfront 2\n".as_slice(),
+            Want::Line("slabfront 2", [].as_slice()),
+        ),
+        (b"bare\n".as_slice(), Want::Line("bare", [].as_slice())),
+        (b"plain\n".as_slice(), Want::Line("plain", [].as_slice())),
+        (
+            b"spread 2\n".as_slice(),
+            Want::Line("spread", [2].as_slice()),
+        ),
+        (
+            b"cnew 1 10 1 3\n".as_slice(),
+            Want::Line("cnew", [1, 10, 1, 3].as_slice()),
+        ),
+        (
+            b"cold 1 2 3\n".as_slice(),
+            Want::Line("cold", [1, 2, 3].as_slice()),
+        ),
+        (
             b"leaf 0 0 -4611686018427387904\n".as_slice(),
             Want::Line("leaf", [0, 0, -4611686018427387904].as_slice()),
         ),
@@ -129,11 +162,14 @@ fn lines_are_read(rt: HostRuntime) {
         (b"leaf 0 0".as_slice(), Want::Fails(Spelling::Form)),
         (b"leaf 0\n".as_slice(), Want::Fails(Spelling::Form)),
         (b"\n".as_slice(), Want::Fails(Spelling::Form)),
-        (b"slabfront 2\n".as_slice(), Want::Fails(Spelling::Form)),
+        (b"slabfront 3\n".as_slice(), Want::Fails(Spelling::Form)),
         (b"point 1\n".as_slice(), Want::Fails(Spelling::Form)),
         (b"pair 1 2 3\n".as_slice(), Want::Fails(Spelling::Form)),
         (b"done 1\n".as_slice(), Want::Fails(Spelling::Form)),
         (b"leave 0 0\n".as_slice(), Want::Fails(Spelling::Form)),
+        (b"spread\n".as_slice(), Want::Fails(Spelling::Form)),
+        (b"bare 1\n".as_slice(), Want::Fails(Spelling::Form)),
+        (b"cnew 1 10\n".as_slice(), Want::Fails(Spelling::Form)),
     ];
     for (text, want) in &rows {
         assert_read(&rt, text, want);
@@ -186,4 +222,32 @@ fn view_stands_after_each_line(rt: HostRuntime) {
     assert!(rt; matches!(view.next(), Some(Ok(Line::Pair(_)))));
     assert!(rt; matches!(view.next(), Some(Err(Spelling::Form))));
     assert!(rt; view.next().is_none());
+}
+
+#[test]
+fn buffer_gives_lines_of_pieces(rt: HostRuntime) {
+    let mut buffer = LineBuf::new();
+    assert_eq!(rt; buffer.feed(b"pa"), 2);
+    assert!(rt; buffer.line().is_none());
+    assert_eq!(rt; buffer.feed(b"ir 1 2\nopen\n"), 7);
+    assert_eq!(rt; buffer.held(), 9);
+    let Some(Ok(Line::Pair(numbers))) = buffer.line() else {
+        panic!(rt; "a pair")
+    };
+    assert_numbers(&rt, &numbers, &[1, 2]);
+    buffer.clear();
+    assert_eq!(rt; buffer.held(), 0);
+    assert_eq!(rt; buffer.feed(b"open\n"), 5);
+    assert!(rt; matches!(buffer.line(), Some(Ok(Line::Open))));
+}
+
+#[test]
+fn buffer_is_full_at_8192_bytes(rt: HostRuntime) {
+    let mut buffer = LineBuf::new();
+    let piece = [b'x'; 8191];
+    assert_eq!(rt; buffer.feed(&piece), 8191);
+    assert!(rt; buffer.line().is_none());
+    assert_eq!(rt; buffer.feed(b"xxx"), 1);
+    assert_eq!(rt; buffer.held(), 8192);
+    assert!(rt; matches!(buffer.line(), Some(Err(Spelling::Form))));
 }

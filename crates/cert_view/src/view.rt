@@ -7,7 +7,7 @@ use crate::line::{Line, Spelling, position_or_len, read_line};
 use std::marker::Model;
 
 /// The most bytes of a line, with its line feed.
-const LONGEST: usize = 8192;
+pub(crate) const LONGEST: usize = 8192;
 
 /// The lines of bytes, one after the other. It is seen as the bytes that are left.
 #[derive(Drop)]

@@ -48,7 +48,7 @@ fit_more sizes load x r (Some best) h f e = (there, omega (arith, f.1), λ size 
     ]
 
 -- orders of few colours, on a size that holds what they weigh
-pub least_from_fit : (m : Mill) (orders : List ℕ) (o : Option ℕ) → colours_of m orders ≤ 2 → IsLeastFit m.sizes (load m orders) o → MatchOption o ((size : ℕ) → Holds m orders size → ⊥) (IsLeastSize m orders)
+pub least_from_fit : (m : Mill) (orders : List ℕ) (o : Option ℕ) → colours_of m orders ≤ m.colour_limit → IsLeastFit m.sizes (load m orders) o → MatchOption o ((size : ℕ) → Holds m orders size → ⊥) (IsLeastSize m orders)
 least_from_fit m orders None few f = λ size h. absurd (omega (arith, f size h.listed, h.weight))
 least_from_fit m orders (Some best) few f = record {
   holds = record { listed = f.0; weight = f.1; colours = few };

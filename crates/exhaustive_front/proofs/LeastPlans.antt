@@ -7,6 +7,7 @@ use Rattle.mill_model.specs.declared.kind.Kind.TheVariants.{New, Old}
 use Rattle.mill_model.specs.Mill.{Mill}
 use Rattle.mill_model.specs.Columns.{Fits, IsInStock, is_old, load, colours_of, size_of}
 use Rattle.mill_model.specs.Plans.{Plan, IsLegal, IsInOrder, is_new, places_of, slab, sums_of}
+use Rattle.mill_model.proofs.Bars.{new_bars_none}
 use Rattle.mill_model.proofs.Gap.{same_sums}
 use Rattle.mill_model.proofs.Judging.{once_from_pairs}
 use Rattle.mill_model.proofs.LeastSizes.{IsNoLarger, resized_loss}
@@ -45,6 +46,7 @@ module _ (m : Mill) (place : List ℕ) (used : ℕ) (places : length place ≡ l
             some = some_places k 0 place (known_below place used numbered k (omega arith));
             weight = subst (λ kind. load m (places_of k 0 place) ≤ size_of m kind) (sym l.1) l.2.holds.weight;
             colours = l.2.holds.colours;
+            bars = new_bars_none m (slice_index_or kinds k (New 0)) (places_of k 0 place) (least_new k h);
           }
 
   pub least_in_order : IsInOrder least_plan
@@ -60,7 +62,7 @@ module _ (m : Mill) (place : List ℕ) (used : ℕ) (places : length place ≡ l
 
 -- without a yard each slab of a legal plan is new
 module _ (m : Mill) (no_yard : m.yard ≡ []) (p : Plan) (legal : IsLegal m p) where
-  new_in_stock : (kind : Kind) (orders : List ℕ) → IsInStock m kind → load m orders ≤ size_of m kind → colours_of m orders ≤ 2 → (size : ℕ) × (kind ≡ New size) × Holds m orders size
+  new_in_stock : (kind : Kind) (orders : List ℕ) → IsInStock m kind → load m orders ≤ size_of m kind → colours_of m orders ≤ m.colour_limit → (size : ℕ) × (kind ≡ New size) × Holds m orders size
   new_in_stock (New size) orders stock weight colours = (size, refl, record { listed = stock; weight = weight; colours = colours })
   new_in_stock (Old s) orders stock weight colours = absurd (omega (arith, ap length no_yard))
 

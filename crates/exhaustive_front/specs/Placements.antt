@@ -17,7 +17,7 @@ pub record AreNumbered (place : List ℕ) (used : ℕ) : Type 0 where
 pub record Holds (m : Mill) (orders : List ℕ) (size : ℕ) : Type 0 where
   pub listed : Contains m.sizes size
   pub weight : load m orders ≤ size
-  pub colours : colours_of m orders ≤ 2
+  pub colours : colours_of m orders ≤ m.colour_limit
 
 -- the least of the sizes that may hold these orders
 pub record IsLeastSize (m : Mill) (orders : List ℕ) (size : ℕ) : Type 0 where

@@ -61,7 +61,7 @@ fn least_size(mill: &Mill, place: &[u16], slab: u16) -> Option<u16>
     requires { length place.now ≡ length mill.now.orders }
     ensures { MatchOption result ((size : ℕ) → Holds mill.now (places_of slab 0 place.now) size → ⊥) (IsLeastSize mill.now (places_of slab 0 place.now)) }
 {
-    if colours_on(mill, place, slab) > 2 {
+    if colours_on(mill, place, slab) > usize::from(mill.colour_limit()) {
         return None;
     }
     size_for(mill, load_on(mill, place, slab))

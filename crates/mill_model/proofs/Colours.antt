@@ -1,5 +1,5 @@
 -- The different colours of a list, as they are seen one after another.
-use Rattle.std.proofs.Common.{◌≡◌, ℕ, suc, Bool, true, false, cond, ◌||◌, eqb, List, [], ◌∷◌, ◌++◌, length, refl, sym, ap, ◌∙◌, inl, inr, arith, length-append, length-take, append-nil, map, take, drop, get_or, ◌+◌, ◌<◌}
+use Rattle.std.proofs.Common.{◌≡◌, ℕ, suc, Bool, true, false, cond, ◌||◌, eqb, List, [], ◌∷◌, ◌++◌, length, refl, sym, ap, ◌∙◌, inl, inr, arith, length-append, length-take, append-nil, map, take, drop, get_or, ◌+◌, ◌<◌, ◌≤◌}
 use Rattle.std.proofs.lemmas.Bool.{cases_Bool, eqb-true, eq-eqb, ne_eqb}
 use Rattle.std.proofs.lemmas.List.{take_more, take-append-drop, map-append}
 use Rattle.mill_model.specs.Mill.{Mill}
@@ -37,7 +37,7 @@ AreColours-push colours all c are = elim (cases_Bool (has colours c)) [
 abbrev pub colours_to : Mill → ℕ → List ℕ → ℕ → List ℕ
 colours_to m k place o = map (λ (x : ℕ). (order_at m x).colour) (places_of k 0 (take o place))
 
-places_more : (k : ℕ) (place : List ℕ) (o : ℕ) → o < length place → places_of k 0 (take (o + 1) place) ≡ places_of k 0 (take o place) ++ cond (eqb (get_or place o 0) k) (o ∷ []) []
+pub places_more : (k : ℕ) (place : List ℕ) (o : ℕ) → o < length place → places_of k 0 (take (o + 1) place) ≡ places_of k 0 (take o place) ++ cond (eqb (get_or place o 0) k) (o ∷ []) []
 places_more k place o h =
     ap (places_of k 0) (take_more place o 0 h)
     ∙ places_of-push k 0 (take o place) (get_or place o 0)
@@ -52,14 +52,14 @@ pub colours_without : (m : Mill) (k : ℕ) (place : List ℕ) (o : ℕ) → o < 
 colours_without m k place o h e =
     ap (map (λ (x : ℕ). (order_at m x).colour)) (places_more k place o h ∙ ap (λ (b : Bool). places_of k 0 (take o place) ++ cond b (o ∷ []) []) (ne_eqb (get_or place o 0) k e) ∙ append-nil (places_of k 0 (take o place)))
 
--- a third colour on the slab
-pub third_colour : (m : Mill) (k : ℕ) (place : List ℕ) (o : ℕ) (colours : List ℕ) → AreColours colours (colours_to m k place o) → o < length place → get_or place o 0 ≡ k → has colours (order_at m o).colour ≡ false → length colours ≡ 2
-    → 2 < colours_of m (places_of k 0 place)
-third_colour m k place o colours are h e fresh two =
+-- one colour more than so many on the slab
+pub one_more_colour : (m : Mill) (k : ℕ) (place : List ℕ) (o : ℕ) (colours : List ℕ) (limit : ℕ) → AreColours colours (colours_to m k place o) → o < length place → get_or place o 0 ≡ k → has colours (order_at m o).colour ≡ false → limit ≤ length colours
+    → limit < colours_of m (places_of k 0 place)
+one_more_colour m k place o colours limit are h e fresh all_taken =
     let all : map (λ (x : ℕ). (order_at m x).colour) (places_of k 0 place) ≡ colours_to m k place (o + 1) ++ map (λ (x : ℕ). (order_at m x).colour) (places_of k (0 + length (take (o + 1) place)) (drop (o + 1) place)) =
     ap (λ xs. map (λ (x : ℕ). (order_at m x).colour) (places_of k 0 xs)) (sym (take-append-drop (o + 1) place))
     ∙ ap (map (λ (x : ℕ). (order_at m x).colour)) (places_of-append k 0 (take (o + 1) place) (drop (o + 1) place))
     ∙ map-append (λ (x : ℕ). (order_at m x).colour) (places_of k 0 (take (o + 1) place)) (places_of k (0 + length (take (o + 1) place)) (drop (o + 1) place)) in
-    let three : different (colours_to m k place (o + 1)) ≡ suc (different (colours_to m k place o)) =
+    let more : different (colours_to m k place (o + 1)) ≡ suc (different (colours_to m k place o)) =
     ap different (colours_with m k place o h e) ∙ different-push (colours_to m k place o) (order_at m o).colour ∙ ap (λ (b : Bool). cond b (different (colours_to m k place o)) (suc (different (colours_to m k place o)))) (sym (are.same (order_at m o).colour) ∙ fresh) in
-    omega (arith, ap different all, three, are.count, different-append_le (colours_to m k place (o + 1)) (map (λ (x : ℕ). (order_at m x).colour) (places_of k (0 + length (take (o + 1) place)) (drop (o + 1) place))))
+    omega (arith, ap different all, more, are.count, different-append_le (colours_to m k place (o + 1)) (map (λ (x : ℕ). (order_at m x).colour) (places_of k (0 + length (take (o + 1) place)) (drop (o + 1) place))))

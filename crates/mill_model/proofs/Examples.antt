@@ -13,7 +13,7 @@ use Rattle.mill_model.specs.Decisions.{column_agrees}
 
 -- sizes 4 and 10, two orders of weight 4 and one colour, a surplus slab of 9
 mill : Mill
-mill = record { sizes = 4 ∷ 10 ∷ []; colours = 1; orders = record { weight = 4; colour = 1 } ∷ record { weight = 4; colour = 1 } ∷ []; yard = 9 ∷ [] }
+mill = record { sizes = 4 ∷ 10 ∷ []; colours = 1; colour_limit = 2; orders = record { weight = 4; colour = 1 } ∷ record { weight = 4; colour = 1 } ∷ []; yard = 9 ∷ []; bars = [] }
 
 together : Plan
 together = record { kinds = New 10 ∷ []; place = 0 ∷ 0 ∷ [] }
@@ -48,7 +48,7 @@ in_yard_legal = record {
     within (suc (suc o)) h = absurd (omega arith)
 
     fits : (k : ℕ) → k < length in_yard.kinds → Fits mill (slab in_yard k)
-    fits zero h = record { kind = omega arith; some = omega arith; weight = omega arith; colours = omega arith }
+    fits zero h = record { kind = omega arith; some = omega arith; weight = omega arith; colours = omega arith; bars = refl }
     fits (suc k) h = absurd (omega arith)
 
     once : (s : ℕ) → count_by (is_old s) in_yard.kinds ≤ 1
@@ -56,7 +56,7 @@ in_yard_legal = record {
 
 -- one size 4, one order of weight 5
 small : Mill
-small = record { sizes = 4 ∷ []; colours = 1; orders = record { weight = 5; colour = 1 } ∷ []; yard = [] }
+small = record { sizes = 4 ∷ []; colours = 1; colour_limit = 2; orders = record { weight = 5; colour = 1 } ∷ []; yard = []; bars = [] }
 
 small_prices : Prices
 small_prices = record { lambda = pos 0; mu = pos 0; pi = pos 1 ∷ []; sigma = [] }

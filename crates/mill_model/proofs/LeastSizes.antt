@@ -6,6 +6,7 @@ use Rattle.mill_model.specs.declared.kind.Kind.TheVariants.{New, Old}
 use Rattle.mill_model.specs.Mill.{Mill}
 use Rattle.mill_model.specs.Plans.{Plan, IsLegal, is_new, slab, sums_of}
 use Rattle.mill_model.specs.Columns.{Fits, IsInStock, size_of, is_old, load}
+use Rattle.mill_model.proofs.Bars.{new_bars_none}
 
 pub sum_by-le_at : {X Y : Type 0} (f : X → ℕ) (g : Y → ℕ) (d : X) (e : Y) (xs : List X) (ys : List Y) → length xs ≡ length ys → ((k : ℕ) → k < length ys → f (get_or xs k d) ≤ g (get_or ys k e)) → sum_by f xs ≤ sum_by g ys
 sum_by-le_at f g d e [] [] l h = omega arith
@@ -37,7 +38,7 @@ module _ (m : Mill) (p : Plan) (legal : IsLegal m p) (kinds : List Kind) (same :
   }
     where
       fits : (k : ℕ) → k < length kinds → Fits m (slab resized k)
-      fits k h = record { kind = (each k (omega arith)).stock; some = (legal.fits k (omega arith)).some; weight = (each k (omega arith)).holds; colours = (legal.fits k (omega arith)).colours }
+      fits k h = record { kind = (each k (omega arith)).stock; some = (legal.fits k (omega arith)).some; weight = (each k (omega arith)).holds; colours = (legal.fits k (omega arith)).colours; bars = new_bars_none m (slice_index_or kinds k (New 0)) (slab resized k).orders (each k (omega arith)).fresh }
 
       zeros : (ks : List Kind) → sum_by (λ (k : Kind). 0) ks ≡ 0
       zeros [] = refl

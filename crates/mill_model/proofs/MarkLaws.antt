@@ -1,13 +1,11 @@
 -- Marks of a tree: what they show, how many there are, and that they can be left out.
-use Rattle.std.proofs.Common.{◌≡◌, ℕ, ◌+◌, ℤ, pos, ◌*ℤ◌, ◌≤ℤ◌, cond, true, false, List, [], ◌∷◌, ◌++◌, length, refl, sym, ap, ap₂, ◌∙◌, subst, arith, length-append, Option, Some, None}
+use Rattle.std.proofs.Common.{◌≡◌, ℕ, ◌+◌, ℤ, pos, cond, true, false, List, [], ◌∷◌, ◌++◌, length, refl, sym, ap, ap₂, ◌∙◌, subst, arith, length-append, Option, Some, None}
 use Rattle.std.specs.Prelude.{unsigned_abs, map}
-use Rattle.std.specs.List.{AllByRecursion, count_by}
 use Rattle.std.proofs.lemmas.Int.{ints}
 use Rattle.std.proofs.lemmas.List.Sums.{sum_by-cons, sum_by-append}
 use Rattle.mill_model.specs.declared.ask.Ask.{Ask}
 use Rattle.mill_model.specs.declared.ask.Ask.TheVariants.{Pair, Put}
 use Rattle.mill_model.specs.declared.steps.Step.{Step}
-use Rattle.mill_model.specs.declared.steps.Step.TheVariants.{Leaf}
 use Rattle.mill_model.specs.declared.mark.Mark.{Mark}
 use Rattle.mill_model.specs.declared.mark.Mark.TheVariants as marks
 use Rattle.mill_model.specs.declared.limits.Limits.{Limits}
@@ -22,7 +20,6 @@ use Rattle.mill_model.specs.Trees.Tree.{End, Split}
 use Rattle.mill_model.specs.Marks.{MarkedSteps, is_question, question_count, HasOneMarkEach, IsRight, HasRightMarks, IsMarkedRefutation, AreAllPlain}
 use Rattle.mill_model.proofs.Signed.{mul_le}
 use Rattle.mill_model.proofs.Duality.{no_cover_and_prices}
-use Rattle.mill_model.proofs.Preorder.{heads, tails}
 
 -- ---- covers
 

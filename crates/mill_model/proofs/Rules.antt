@@ -6,7 +6,7 @@ use Rattle.std.proofs.lemmas.List.Concat.{flat_map_single}
 use Rattle.mill_model.specs.declared.kind.Kind.{Kind}
 use Rattle.mill_model.specs.declared.kind.Kind.TheVariants.{New, Old}
 use Rattle.mill_model.specs.declared.illegal.Illegal.{Illegal}
-use Rattle.mill_model.specs.declared.illegal.Illegal.TheVariants.{Places, Place, Empty, Size, Yard, Twice, Load, Colours}
+use Rattle.mill_model.specs.declared.illegal.Illegal.TheVariants.{Places, Place, Empty, Size, Yard, Twice, Load, Colours, Barred}
 use Rattle.mill_model.specs.Mill.{Mill}
 use Rattle.mill_model.specs.Columns.{has, is_old, size_of, load, colours_of, IsInStock, Fits}
 use Rattle.mill_model.specs.Plans.{Plan, slab, places_of, IsLegal}
@@ -63,25 +63,28 @@ pub record IsSound (m : Mill) (p : Plan) (k : ℕ) : Type 0 where
   pub once : breaks m p (Twice k) ≡ false
   pub holds : breaks m p (Load k) ≡ false
   pub colours : breaks m p (Colours k) ≡ false
+  pub bars : breaks m p (Barred k) ≡ false
 
 pub sound_from : (m : Mill) (p : Plan) (k : ℕ) → find (breaks m p) (slab_rules k) ≡ None → IsSound m p k
 sound_from m p k e =
-    let a = find-cons_none (breaks m p) (Empty k) (Size k ∷ Yard k ∷ Twice k ∷ Load k ∷ Colours k ∷ []) e in
-    let b = find-cons_none (breaks m p) (Size k) (Yard k ∷ Twice k ∷ Load k ∷ Colours k ∷ []) a.1 in
-    let c = find-cons_none (breaks m p) (Yard k) (Twice k ∷ Load k ∷ Colours k ∷ []) b.1 in
-    let d = find-cons_none (breaks m p) (Twice k) (Load k ∷ Colours k ∷ []) c.1 in
-    let f = find-cons_none (breaks m p) (Load k) (Colours k ∷ []) d.1 in
-    let g = find-cons_none (breaks m p) (Colours k) [] f.1 in
-    record { some = a.0; listed = b.0; there = c.0; once = d.0; holds = f.0; colours = g.0 }
+    let a = find-cons_none (breaks m p) (Empty k) (Size k ∷ Yard k ∷ Twice k ∷ Load k ∷ Colours k ∷ Barred k ∷ []) e in
+    let b = find-cons_none (breaks m p) (Size k) (Yard k ∷ Twice k ∷ Load k ∷ Colours k ∷ Barred k ∷ []) a.1 in
+    let c = find-cons_none (breaks m p) (Yard k) (Twice k ∷ Load k ∷ Colours k ∷ Barred k ∷ []) b.1 in
+    let d = find-cons_none (breaks m p) (Twice k) (Load k ∷ Colours k ∷ Barred k ∷ []) c.1 in
+    let f = find-cons_none (breaks m p) (Load k) (Colours k ∷ Barred k ∷ []) d.1 in
+    let g = find-cons_none (breaks m p) (Colours k) (Barred k ∷ []) f.1 in
+    let h = find-cons_none (breaks m p) (Barred k) [] g.1 in
+    record { some = a.0; listed = b.0; there = c.0; once = d.0; holds = f.0; colours = g.0; bars = h.0 }
 
 from_sound : (m : Mill) (p : Plan) (k : ℕ) → IsSound m p k → find (breaks m p) (slab_rules k) ≡ None
 from_sound m p k s =
-    find-cons_no (breaks m p) (Empty k) (Size k ∷ Yard k ∷ Twice k ∷ Load k ∷ Colours k ∷ []) s.some
-    ∙ find-cons_no (breaks m p) (Size k) (Yard k ∷ Twice k ∷ Load k ∷ Colours k ∷ []) s.listed
-    ∙ find-cons_no (breaks m p) (Yard k) (Twice k ∷ Load k ∷ Colours k ∷ []) s.there
-    ∙ find-cons_no (breaks m p) (Twice k) (Load k ∷ Colours k ∷ []) s.once
-    ∙ find-cons_no (breaks m p) (Load k) (Colours k ∷ []) s.holds
-    ∙ find-cons_no (breaks m p) (Colours k) [] s.colours
+    find-cons_no (breaks m p) (Empty k) (Size k ∷ Yard k ∷ Twice k ∷ Load k ∷ Colours k ∷ Barred k ∷ []) s.some
+    ∙ find-cons_no (breaks m p) (Size k) (Yard k ∷ Twice k ∷ Load k ∷ Colours k ∷ Barred k ∷ []) s.listed
+    ∙ find-cons_no (breaks m p) (Yard k) (Twice k ∷ Load k ∷ Colours k ∷ Barred k ∷ []) s.there
+    ∙ find-cons_no (breaks m p) (Twice k) (Load k ∷ Colours k ∷ Barred k ∷ []) s.once
+    ∙ find-cons_no (breaks m p) (Load k) (Colours k ∷ Barred k ∷ []) s.holds
+    ∙ find-cons_no (breaks m p) (Colours k) (Barred k ∷ []) s.colours
+    ∙ find-cons_no (breaks m p) (Barred k) [] s.bars
 
 pub has_order_on : (m : Mill) (p : Plan) (k : ℕ) → IsSound m p k → 0 < length (places_of k 0 p.place)
 has_order_on m p k s = elim (cases_lt 0 (length (places_of k 0 p.place))) [
@@ -162,7 +165,8 @@ sound_fits m p k s = record {
   kind = in_stock m (slab p k).kind s.listed s.there;
   some = has_order_on m p k s;
   weight = ltb-false (size_of m (slab p k).kind) (load m (slab p k).orders) s.holds;
-  colours = ltb-false 2 (colours_of m (slab p k).orders) s.colours;
+  colours = ltb-false m.colour_limit (colours_of m (slab p k).orders) s.colours;
+  bars = s.bars;
 }
 
 fits_sound : (m : Mill) (p : Plan) (k : ℕ) → k < length p.kinds → IsLegal m p → IsSound m p k
@@ -174,7 +178,8 @@ fits_sound m p k l legal =
       there = there_in_stock m (slab p k).kind fits.kind;
       once = among_twice p.kinds k l legal.once;
       holds = le-ltb (size_of m (slab p k).kind) (load m (slab p k).orders) fits.weight;
-      colours = le-ltb 2 (colours_of m (slab p k).orders) fits.colours;
+      colours = le-ltb m.colour_limit (colours_of m (slab p k).orders) fits.colours;
+      bars = fits.bars;
     }
 
 pub legal_from_rules : (m : Mill) (p : Plan) → find (breaks m p) (Places ∷ map Place (range_with_len 0 (length p.place))) ≡ None → find (breaks m p) (flat_map slab_rules (range_with_len 0 (length p.kinds))) ≡ None → IsLegal m p

@@ -38,7 +38,7 @@ any_below-ext p q zero e = refl
 any_below-ext p q (suc n) e = ap₂ (λ s t. s || t) (any_below-ext p q n e) (e n)
 
 -- the orders of one group are worth the group's price, as soon as there is one
-group_total : (a : Assignment) (value : Group → ℤ) (g : Group) (n : ℕ) → total_below n (λ i. cond (same_group (a i) g) (leader_price a value i) (pos 0)) ≡ cond (any_below (λ i. same_group (a i) g) n) (value g) (pos 0)
+pub group_total : (a : Assignment) (value : Group → ℤ) (g : Group) (n : ℕ) → total_below n (λ i. cond (same_group (a i) g) (leader_price a value i) (pos 0)) ≡ cond (any_below (λ i. same_group (a i) g) n) (value g) (pos 0)
 group_total a value g zero = refl
 group_total a value g (suc n) = elim (cases_Bool (same_group (a n) g)) [
   | inl e ↦ omega (arith, ints, group_total a value g n, cond-true (same_group (a n) g) (leader_price a value n) (pos 0) e, at_member (same_group-true (a n) g e), found (any_below (λ i. same_group (a i) g) n) (same_group (a n) g) e)
@@ -60,7 +60,7 @@ group_total a value g (suc n) = elim (cases_Bool (same_group (a n) g)) [
     kept true t e = refl
     kept false t e = rw e refl
 
-any_below_at : (test : ℕ → Bool) (n o : ℕ) → o < n → test o ≡ true → any_below test n ≡ true
+pub any_below_at : (test : ℕ → Bool) (n o : ℕ) → o < n → test o ≡ true → any_below test n ≡ true
 any_below_at test zero o h e = absurd (omega arith)
 any_below_at test (suc n) o h e = elim (cases_eq o n) [
   | inl q ↦ or_right (any_below test n) (test n) (ap test (sym q) ∙ e)

@@ -1,10 +1,10 @@
 -- Slabs as columns: a kind of slab, and the orders that lie on it.
-use Rattle.std.specs.Prelude.{ℕ, suc, ◌-◌, ◌<◌, ◌≤◌, ◌+◌, Bool, false, cond, eqb, List, [], ◌∷◌, map, length, slice_index, slice_index_or}
+use Rattle.std.specs.Prelude.{◌≡◌, ℕ, suc, ◌-◌, ◌<◌, ◌≤◌, ◌+◌, Bool, false, cond, eqb, List, [], ◌∷◌, map, length, slice_index, slice_index_or}
 use Rattle.std.specs.List.{sum_by, Contains, list_any}
 use Rattle.mill_model.specs.declared.order.Order.{Order}
 use Rattle.mill_model.specs.declared.kind.Kind.{Kind}
 use Rattle.mill_model.specs.declared.kind.Kind.TheVariants.{New, Old}
-use Rattle.mill_model.specs.Mill.{Mill}
+use Rattle.mill_model.specs.Mill.{Mill, is_bar}
 
 -- the order with this number
 abbrev pub order_at : Mill → ℕ → Order
@@ -41,16 +41,26 @@ abbrev pub is_old : ℕ → Kind → Bool
 is_old s (New size) = false
 is_old s (Old t) = eqb t s
 
+-- whether an order mustn't lie on a slab
+abbrev pub is_barred : Mill → ℕ → Kind → Bool
+is_barred m o (New size) = false
+is_barred m o (Old s) = list_any (is_bar o s) m.bars
+
 pub record Column : Type 0 where
   pub kind : Kind
   pub orders : List ℕ
+
+-- whether some order of a column mustn't lie on its slab
+abbrev pub has_barred : Mill → Column → Bool
+has_barred m c = list_any (λ o. is_barred m o c.kind) c.orders
 
 -- what the mill allows on one slab
 pub record Fits (m : Mill) (c : Column) : Type 0 where
   pub kind : IsInStock m c.kind
   pub some : 0 < length c.orders
   pub weight : load m c.orders ≤ size_of m c.kind
-  pub colours : colours_of m c.orders ≤ 2
+  pub colours : colours_of m c.orders ≤ m.colour_limit
+  pub bars : has_barred m c ≡ false
 
 -- the numbers rise, from low on and below high
 abbrev pub Rises : ℕ → ℕ → List ℕ → Type 0

@@ -1,5 +1,5 @@
 -- Branching decisions, and which plans and columns agree with them.
-use Rattle.std.specs.Prelude.{◌≡◌, ℕ, ◌<◌, Bool, cond, not, ◌&&◌, eqb, List, length, slice_index, slice_index_or}
+use Rattle.std.specs.Prelude.{◌≡◌, ℕ, ◌<◌, Bool, true, false, if◌then◌else◌, not, ◌&&◌, eqb, List, length, slice_index, slice_index_or}
 use Rattle.std.specs.List.{list_all, AllByRecursion}
 use Rattle.mill_model.specs.declared.kind.Kind.TheVariants.{New}
 use Rattle.mill_model.specs.declared.ask.Ask.{Ask}
@@ -43,7 +43,8 @@ second_test (Put o s) c = is_old s c.kind
 
 -- yes: both or neither. No: not both
 abbrev pub agrees : Column → Decision → Bool
-agrees c d = cond d.1 (cond (first_test d.0 c) (second_test d.0 c) (not (second_test d.0 c))) (not (first_test d.0 c && second_test d.0 c))
+agrees c (ask, true) = (if first_test ask c then second_test ask c else not (second_test ask c))
+agrees c (ask, false) = not (first_test ask c && second_test ask c)
 
 abbrev pub column_agrees : List Decision → Column → Bool
 column_agrees decisions c = list_all (agrees c) decisions

@@ -4,9 +4,9 @@ use Rattle.std.specs.List.{list_any, range_with_len}
 use Rattle.mill_model.specs.declared.kind.Kind.{Kind}
 use Rattle.mill_model.specs.declared.kind.Kind.TheVariants.{New, Old}
 use Rattle.mill_model.specs.declared.illegal.Illegal.{Illegal}
-use Rattle.mill_model.specs.declared.illegal.Illegal.TheVariants.{Places, Place, Empty, Size, Yard, Twice, Load, Colours}
+use Rattle.mill_model.specs.declared.illegal.Illegal.TheVariants.{Places, Place, Empty, Size, Yard, Twice, Load, Colours, Barred}
 use Rattle.mill_model.specs.Mill.{Mill}
-use Rattle.mill_model.specs.Columns.{has, is_old, size_of, load, colours_of}
+use Rattle.mill_model.specs.Columns.{has, is_old, size_of, load, colours_of, has_barred}
 use Rattle.mill_model.specs.Plans.{Plan, slab}
 
 -- a new slab of a size that isn't listed
@@ -33,11 +33,12 @@ breaks m p (Size k) = is_unlisted m (slab p k).kind
 breaks m p (Yard k) = is_missing m (slab p k).kind
 breaks m p (Twice k) = is_among (take k p.kinds) (slab p k).kind
 breaks m p (Load k) = nat_lt (size_of m (slab p k).kind) (load m (slab p k).orders)
-breaks m p (Colours k) = nat_lt 2 (colours_of m (slab p k).orders)
+breaks m p (Colours k) = nat_lt m.colour_limit (colours_of m (slab p k).orders)
+breaks m p (Barred k) = has_barred m (slab p k)
 
 -- the rules of one slab
 abbrev pub slab_rules : ℕ → List Illegal
-slab_rules k = Empty k ∷ Size k ∷ Yard k ∷ Twice k ∷ Load k ∷ Colours k ∷ []
+slab_rules k = Empty k ∷ Size k ∷ Yard k ∷ Twice k ∷ Load k ∷ Colours k ∷ Barred k ∷ []
 
 -- all rules: that of the number of places, that of each place, and those of each slab
 abbrev pub rules_of : Plan → List Illegal

@@ -16,6 +16,7 @@ pub mod Paths
 pub mod Plain
 pub mod Judging
 pub mod ColourSet
+pub mod BarTable
 pub mod Starts
 pub mod Laws
 pub mod Groups

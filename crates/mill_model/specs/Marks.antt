@@ -1,5 +1,5 @@
 -- The marks of a finished tree: why each of its questions was asked.
-use Rattle.std.specs.Prelude.{◌≡◌, ℕ, Bool, true, false, List, [], ◌∷◌, length}
+use Rattle.std.specs.Prelude.{◌≡◌, ℕ, Bool, true, false, List, length}
 use Rattle.std.specs.List.{AllByRecursion, count_by}
 use Rattle.mill_model.specs.declared.mark.Mark.{Mark}
 use Rattle.mill_model.specs.declared.mark.Mark.TheVariants.{Spread, Bare, Plain}

@@ -1,23 +1,27 @@
 ghost use Rattle.std.specs.Prelude.{◌≡◌, ◌++◌, ◌∷◌, [], ◌≤◌, false, cond, length};
 ghost use Rattle.std.specs.Bool.{OnTrue, OnFalse};
+ghost use Rattle.mill_model.specs.Mill.{most_colour_limit};
 ghost use Rattle.mill_model.specs.Columns.{has};
 
+use crate::numbers::MOST_COLOUR_LIMIT;
 use std::marker::Model;
 
-/// At most two different colours, in the order in which they came.
+/// A few different colours, in the order in which they came: never more than the greatest colour limit.
 #[derive(Drop)]
 pub struct ColourSet {
-    first: Option<u16>,
-    second: Option<u16>,
+    colours: [u16; MOST_COLOUR_LIMIT as usize],
+    count: usize,
 }
 
 impl Model for ColourSet {
-    ghost use Rattle.std.specs.Prelude.{ℕ, List};
-    ghost use Rattle.mill_model.specs.ColourSet.{seen};
+    ghost use Rattle.std.specs.Prelude.{ℕ, List, ◌≤◌, take};
+    ghost use Rattle.mill_model.specs.Mill.{most_colour_limit};
 
     ghost Value = { List ℕ };
 
-    ghost view = { λ c. seen c.first c.second };
+    ghost view = { λ c. take c.count c.colours };
+
+    ghost invariant = { λ c. c.count ≤ most_colour_limit };
 }
 
 impl ColourSet {
@@ -26,30 +30,27 @@ impl ColourSet {
         ensures { result ≡ [] }
     {
         ColourSet {
-            first: None,
-            second: None,
+            colours: [0; MOST_COLOUR_LIMIT as usize],
+            count: 0,
         }
     }
 
-    /// Adds a colour, unless it would be a third one.
-    pub fn add(&mut self, colour: u16) -> bool
+    /// Adds a colour, unless it would be one more than so many.
+    pub fn add(&mut self, colour: u16, limit: u16) -> bool
+        requires { limit ≤ most_colour_limit }
         ensures added { OnTrue result (self.new ≡ cond (has self.old colour) self.old (self.old ++ colour ∷ [])) }
-        ensures few { length self.new ≤ 2 }
-        ensures third { OnFalse result ((has self.old colour ≡ false) × (length self.old ≡ 2)) }
+        ensures few { length self.old ≤ limit → length self.new ≤ limit }
+        ensures full { OnFalse result ((has self.old colour ≡ false) × (limit ≤ length self.old)) }
+        ensures kept { OnFalse result (self.new ≡ self.old) }
     {
-        match (self.first, self.second) {
-            (None, _) => {
-                self.first = Some(colour);
-                self.second = None;
-                true
-            }
-            (Some(first), None) => {
-                if first != colour {
-                    self.second = Some(colour);
-                }
-                true
-            }
-            (Some(first), Some(second)) => first == colour || second == colour,
+        if self.colours[..self.count].contains(&colour) {
+            return true;
         }
+        if self.count >= limit as usize {
+            return false;
+        }
+        self.colours[self.count] = colour;
+        self.count += 1;
+        true
     }
 }

@@ -25,7 +25,10 @@ pub enum Illegal {
     /// The orders on this slab weigh more than its size.
     #[error("the orders on slab {0} weigh more than its size")]
     Load(u16),
-    /// The orders on this slab have more than two different colours.
-    #[error("the orders on slab {0} have more than two different colours")]
+    /// The orders on this slab have more different colours than the mill allows.
+    #[error("the orders on slab {0} have more different colours than are allowed")]
     Colours(u16),
+    /// An order on this slab is barred from it.
+    #[error("an order on slab {0} is barred from it")]
+    Barred(u16),
 }

@@ -1,13 +1,15 @@
 //! The rules of a plan, tested in their order.
 
 ghost use Rattle.std.specs.Prelude.{◌≡◌, ◌<◌, ◌≤◌, ◌^◌, ◌∷◌, nat_eq, nat_lt, length, map, flat_map, sum_by, count_by, OnOk};
-ghost use Rattle.std.specs.List.{range_with_len};
-ghost use Rattle.mill_model.specs.Columns.{is_old as is_surplus, size_of as size_of_kind, load, colours_of};
+ghost use Rattle.std.specs.List.{range_with_len, list_any};
+ghost use Rattle.mill_model.specs.Mill.{most_orders};
+ghost use Rattle.mill_model.specs.Columns.{is_old as is_surplus, size_of as size_of_kind, load, colours_of, is_barred, has_barred};
 ghost use Rattle.mill_model.specs.Plans.{places_of, IsLegal, is_new, sums_of};
 ghost use Rattle.mill_model.specs.Plain.{total_weight as weight_of_orders};
 ghost use Rattle.mill_model.specs.Judging.{rules_of, slab_rules, AnswersFirst, is_unlisted, is_missing, is_among};
 
 use crate::colour_set::ColourSet;
+use crate::numbers::MOST_ORDERS;
 use crate::{Illegal, Kind, Mill, Plan, Sums};
 
 /// Tests all rules in their order.
@@ -41,7 +43,7 @@ fn judge_slabs(mill: &Mill, plan: &Plan) -> Result<(), Illegal>
     ensures { AnswersFirst mill.now plan.now (flat_map slab_rules (range_with_len 0 (length plan.now.kinds))) result }
 {
     let orders = mill.orders().len();
-    prove!(orders <= 250);
+    prove!(orders <= MOST_ORDERS as usize);
     for k in 0..plan.kinds().len() {
         judge_slab(mill, plan, k as u16)?;
     }
@@ -72,6 +74,9 @@ fn judge_slab(mill: &Mill, plan: &Plan, k: u16) -> Result<(), Illegal>
     }
     if has_many_colours(mill, plan.place(), k) {
         return Err(Illegal::Colours(k));
+    }
+    if has_barred_order(mill, plan.place(), k, kind) {
+        return Err(Illegal::Barred(k));
     }
     Ok(())
 }
@@ -161,15 +166,42 @@ fn load_on(mill: &Mill, place: &[u16], k: u16) -> u32
     sum
 }
 
-// Whether the orders on slab k have more than two different colours.
+// Whether the orders on slab k have more different colours than the mill allows.
 fn has_many_colours(mill: &Mill, place: &[u16], k: u16) -> bool
     requires { length place.now ≡ length mill.now.orders }
-    ensures { result ≡ nat_lt 2 (colours_of mill.now (places_of k 0 place.now)) }
+    ensures { result ≡ nat_lt mill.now.colour_limit (colours_of mill.now (places_of k 0 place.now)) }
 {
     let orders = mill.orders();
+    let limit = mill.colour_limit();
     let mut colours = ColourSet::new();
     for o in 0..place.len() {
-        if place[o] == k && !colours.add(orders[o].colour) {
+        if place[o] == k && !colours.add(orders[o].colour, limit) {
+            return true;
+        }
+    }
+    false
+}
+
+// Whether an order on slab k, which is of this kind, is barred from it.
+fn has_barred_order(mill: &Mill, place: &[u16], k: u16, kind: Kind) -> bool
+    requires { length place.now ≡ length mill.now.orders }
+    ensures { result ≡ has_barred mill.now (record { kind = kind; orders = places_of k 0 place.now }) }
+{
+    match kind {
+        Kind::New(_) => false,
+        Kind::Old(slab) => bars_an_order(mill, place, k, slab),
+    }
+}
+
+// Whether an order on slab k is barred from this surplus slab.
+fn bars_an_order(mill: &Mill, place: &[u16], k: u16, slab: u16) -> bool
+    requires { length place.now ≡ length mill.now.orders }
+    ensures { result ≡ list_any (λ o. is_barred mill.now o (Kind.Old slab)) (places_of k 0 place.now) }
+{
+    let orders = mill.orders().len();
+    prove!(orders <= MOST_ORDERS as usize);
+    for o in 0..place.len() {
+        if place[o] == k && mill.is_barred(o as u16, slab) {
             return true;
         }
     }
@@ -182,7 +214,7 @@ pub fn sums(mill: &Mill, plan: &Plan) -> Sums
     ensures { result ≡ sums_of mill.now plan.now }
 {
     let orders = mill.orders().len();
-    prove!(orders <= 250);
+    prove!(orders <= MOST_ORDERS as usize);
     Sums {
         loss: total_size(mill, plan.kinds()) - total_weight(mill),
         count: new_slabs(plan.kinds()),
@@ -191,7 +223,7 @@ pub fn sums(mill: &Mill, plan: &Plan) -> Sums
 
 // What all these slabs can hold.
 fn total_size(mill: &Mill, kinds: &[Kind]) -> u32
-    requires { length kinds.now ≤ 250 }
+    requires { length kinds.now ≤ most_orders }
     ensures { result ≡ sum_by (size_of_kind mill.now) kinds.now }
 {
     let mut sum: u32 = 0;
@@ -206,7 +238,7 @@ fn total_weight(mill: &Mill) -> u32
     ensures { result ≡ weight_of_orders mill.now }
 {
     let orders = mill.orders();
-    prove!(orders.len() <= 250);
+    prove!(orders.len() <= MOST_ORDERS as usize);
     let mut sum: u32 = 0;
     for order in orders {
         sum += u32::from(order.weight);
@@ -216,7 +248,7 @@ fn total_weight(mill: &Mill) -> u32
 
 // How many of these slabs are new.
 fn new_slabs(kinds: &[Kind]) -> u16
-    requires { length kinds.now ≤ 250 }
+    requires { length kinds.now ≤ most_orders }
     ensures { result ≡ count_by is_new kinds.now }
 {
     let mut count: u16 = 0;

@@ -3,6 +3,7 @@
 #![tactic(auto)]
 
 mod ask;
+mod bar_table;
 mod colour_set;
 mod front;
 mod head;
@@ -13,6 +14,7 @@ mod laws;
 mod limits;
 mod mark;
 mod mill;
+mod numbers;
 mod open_tree;
 mod order;
 mod plan;
@@ -43,6 +45,9 @@ pub use laws::{
 pub use limits::Limits;
 pub use mark::Mark;
 pub use mill::Mill;
+pub use numbers::{
+    MOST_BARS, MOST_COLOUR_LIMIT, MOST_COLOURS, MOST_ORDERS, MOST_SIZES, MOST_SLABS, MOST_WEIGHT,
+};
 pub use open_tree::OpenTree;
 pub use order::Order;
 pub use plan::Plan;

@@ -1,15 +1,19 @@
-ghost use Rattle.std.specs.Prelude.{◌≡◌, []};
-ghost use Rattle.mill_model.specs.Mill.{IsInLimits};
+ghost use Rattle.std.specs.Prelude.{◌≡◌, [], length};
+ghost use Rattle.mill_model.specs.Mill.{IsInLimits, IsBetween, AreBarsAmong, with_yard, most_colour_limit};
+ghost use Rattle.mill_model.specs.declared.kind.Kind.TheVariants.{Old};
+ghost use Rattle.mill_model.specs.Columns.{is_barred as is_barred_from};
 
 use crate::{Order, Yard};
 use std::marker::Model;
 
-/// A mill: the slab sizes that it casts (1 to 100 of them, each 1 to 10,000), the number of its colours (1 to 250), its
-/// orders (at most 250, each of weight 1 to 10,000), and the surplus slabs in its yard.
+/// A mill: the slab sizes that it casts (1 to 100 of them, each 1 to 10,000), the number of its colours (1 to 250), how many
+/// different colours the orders on one slab may have (1 to 3), its orders (at most 250, each of weight 1 to 10,000), and its
+/// yard.
 #[derive(Drop)]
 pub struct Mill {
     sizes: Vec<u16>,
     colours: u16,
+    colour_limit: u16,
     orders: Vec<Order>,
     yard: Yard,
 }
@@ -19,21 +23,23 @@ impl Model for Mill {
 
     ghost Value = { Mill };
 
-    ghost view = { λ m. record { sizes = m.sizes.items; colours = m.colours; orders = m.orders.items; yard = m.yard } };
+    ghost view = { λ m. record { sizes = m.sizes.items; colours = m.colours; colour_limit = m.colour_limit; orders = m.orders.items; yard = m.yard.sizes; bars = m.yard.bars } };
 
-    ghost invariant = { λ m. IsInLimits (record { sizes = m.sizes.items; colours = m.colours; orders = m.orders.items; yard = m.yard }) };
+    ghost invariant = { λ m. IsInLimits (record { sizes = m.sizes.items; colours = m.colours; colour_limit = m.colour_limit; orders = m.orders.items; yard = m.yard.sizes; bars = m.yard.bars }) };
 }
 
 impl Mill {
-    /// A mill with an empty yard. Its numbers are within the limits, and each order's colour is one of its colours.
+    /// A mill with an empty yard and the colour limit 2. Its numbers are within the limits, and each order's colour is one of
+    /// its colours.
     pub fn new(sizes: Vec<u16>, colours: u16, orders: Vec<Order>) -> Mill
-        requires { IsInLimits (record { sizes = sizes.items; colours = colours; orders = orders.items; yard = [] }) }
-        ensures { result ≡ record { sizes = sizes.items; colours = colours; orders = orders.items; yard = [] } }
+        requires { IsInLimits (record { sizes = sizes.items; colours = colours; colour_limit = 2; orders = orders.items; yard = []; bars = [] }) }
+        ensures { result ≡ record { sizes = sizes.items; colours = colours; colour_limit = 2; orders = orders.items; yard = []; bars = [] } }
     {
-        let yard = Yard::new(Vec::new(*sizes.allocator()));
+        let yard = Yard::new(Vec::new(*sizes.allocator()), Vec::new(*sizes.allocator()));
         Mill {
             sizes,
             colours,
+            colour_limit: 2,
             orders,
             yard,
         }
@@ -55,6 +61,14 @@ impl Mill {
         self.colours
     }
 
+    /// How many different colours the orders on one slab may have: 1 to 3.
+    pub fn colour_limit(&self) -> u16
+        ensures value { result ≡ self.now.colour_limit }
+        ensures limits { IsInLimits self.now }
+    {
+        self.colour_limit
+    }
+
     /// The orders. Calls number them from 0, texts from 1.
     pub fn orders(&self) -> &[Order]
         ensures value { result.now ≡ self.now.orders }
@@ -71,10 +85,34 @@ impl Mill {
         self.yard.sizes()
     }
 
-    /// Replaces the yard. All else stays.
+    /// The bars: pairs of an order and a surplus slab on which it mustn't lie, in the order in which they were given.
+    pub fn bars(&self) -> &[(u16, u16)]
+        ensures value { result.now ≡ self.now.bars }
+        ensures limits { IsInLimits self.now }
+    {
+        self.yard.bars()
+    }
+
+    /// Whether an order mustn't lie on a surplus slab: told at once, however many bars there are.
+    pub fn is_barred(&self, order: u16, slab: u16) -> bool
+        ensures { result ≡ is_barred_from self.now order (Old slab) }
+    {
+        self.yard.is_barred(order, slab)
+    }
+
+    /// Replaces the yard. Its bars are of orders of this mill. All else stays.
     pub fn put_yard(&mut self, yard: Yard)
-        ensures { self.new ≡ record self.old { yard = yard } }
+        requires { AreBarsAmong (length self.old.orders) yard.bars }
+        ensures { self.new ≡ with_yard self.old yard }
     {
         self.yard = yard;
+    }
+
+    /// Lets the orders on one slab have so many different colours, 1 to 3. All else stays.
+    pub fn set_colour_limit(&mut self, limit: u16)
+        requires { IsBetween 1 most_colour_limit limit }
+        ensures { self.new ≡ record self.old { colour_limit = limit } }
+    {
+        self.colour_limit = limit;
     }
 }

@@ -46,6 +46,11 @@ list_at item (suc count) left = do
   others ← list_at item count first.1
   Ok (first.0 ∷ others.0, others.1)
 
+-- an item, or this at the end of the text
+abbrev pub unless_end : {A : Type 0} → A → (WordsLeft → Read A) → ℕ → List (List ℕ) → Read A
+unless_end x item place [] = Ok (x, record { number = place; words = [] })
+unless_end x item place (word ∷ words) = item (record { number = place; words = word ∷ words })
+
 -- no word is left
 abbrev pub no_more : {A : Type 0} → A → ℕ → List (List ℕ) → Result A TextFault
 no_more x place [] = Ok x

@@ -9,7 +9,7 @@ pub fn order_files_spell_mills()
     ensures { OrderFilesSpellMills }
 {}
 
-/// A yard file gives sizes exactly where its words spell them, within their limits.
+/// A yard file gives a yard exactly where its words spell the sizes and the bars, within their limits.
 pub fn yard_files_spell_yards()
     ensures { YardFilesSpellYards }
 {}

@@ -22,7 +22,9 @@ fn reads_orders(rt: HostRuntime) -> Result<(), Fail> {
         assert_eq!(rt; mill.sizes(), [10].as_slice());
         assert_eq!(rt; mill.colours(), 1);
         assert_eq!(rt; mill.orders(), [order, order].as_slice());
+        assert_eq!(rt; mill.colour_limit(), 2);
         assert_eq!(rt; mill.yard().len(), 0);
+        assert_eq!(rt; mill.bars().len(), 0);
     }
     let sizes = read_orders(rt.alloc(), b"3 10 4 10 1 0")?;
     assert_eq!(rt; sizes.sizes(), [10, 4, 10].as_slice());
@@ -79,23 +81,34 @@ fn reads_numbers_of_any_length(rt: HostRuntime) -> Result<(), Fail> {
 
 #[test]
 fn reads_yards(rt: HostRuntime) -> Result<(), Fail> {
-    assert_eq!(rt; read_yard(rt.alloc(), b"1 9\n")?.sizes(), [9].as_slice());
-    assert_eq!(rt;
-        read_yard(rt.alloc(), b"2 10000 1")?.sizes(),
-        [10000, 1].as_slice()
-    );
-    assert_eq!(rt; read_yard(rt.alloc(), b"0")?.sizes().len(), 0);
+    let mill = read_orders(rt.alloc(), b"2 4 10 1 2 4 1 4 1")?;
+    let barred = read_yard(rt.alloc(), &mill, b"2 10000 1 3 1 2 2 1 1 2\n")?;
+    assert_eq!(rt; barred.sizes(), [10000, 1].as_slice());
+    assert_eq!(rt; barred.bars(), [(0, 1), (1, 0), (0, 1)].as_slice());
+    for text in [b"1 9\n".as_slice(), b"1 9 0".as_slice()] {
+        let yard = read_yard(rt.alloc(), &mill, text)?;
+        assert_eq!(rt; yard.sizes(), [9].as_slice());
+        assert_eq!(rt; yard.bars().len(), 0);
+    }
     let rows = [
         (b"".as_slice(), 1, Why::Missing),
         (b"41 1".as_slice(), 1, Why::Range),
         (b"2 9".as_slice(), 3, Why::Missing),
         (b"1 0".as_slice(), 2, Why::Range),
-        (b"1 9 9".as_slice(), 3, Why::Extra),
         (b"one 9".as_slice(), 1, Why::NotNumber),
+        (b"1 9 10001 1".as_slice(), 3, Why::Range),
+        (b"1 9 2".as_slice(), 4, Why::Missing),
+        (b"1 9 1 0 1".as_slice(), 4, Why::Range),
+        (b"1 9 1 3 x".as_slice(), 4, Why::Range),
+        (b"1 9 1 x 1".as_slice(), 4, Why::NotNumber),
+        (b"1 9 1 2 2".as_slice(), 5, Why::Range),
+        (b"1 9 1 2".as_slice(), 5, Why::Missing),
+        (b"1 9 1 2 1 1".as_slice(), 6, Why::Extra),
+        (b"0 1 1 1".as_slice(), 4, Why::Range),
     ];
     for (text, word, why) in rows {
         assert_eq!(rt;
-            read_yard(rt.alloc(), text).err(),
+            read_yard(rt.alloc(), &mill, text).err(),
             refused(word, why),
             "word {word}"
         );

@@ -1,5 +1,6 @@
 //! The words of a text, one after another.
 ghost use Rattle.std.specs.Prelude.{◌≡◌, ◌+◌, ◌-◌, ◌^◌, ◌<◌, ◌≤◌, ◌∷◌, [], ℕ, true, false, min, is_some, IfSome, IfOk, IfErr, OnOk, MatchOption, take, drop, length, slice_index, All};
+ghost use Rattle.std.specs.Bool.{OnTrue, OnFalse};
 ghost use Rattle.std.specs.Option.{option_to_list};
 ghost use Rattle.std.specs.Str.Parse.{digits_value};
 ghost use Rattle.mill_model.specs.Mill.{IsBetween};
@@ -138,6 +139,14 @@ impl<'a> Words<'a> {
             Some(word) if word == b"old".as_slice() => Ok(false),
             Some(_) => Err(TextFault::new(place, Why::Kind)),
         }
+    }
+
+    /// Whether no word is left.
+    pub fn is_at_end(&self) -> bool
+        ensures end { OnTrue result (self.now.words ≡ []) }
+        ensures more { OnFalse result (0 < length self.now.words) }
+    {
+        skip_white_space(self.rest).is_empty()
     }
 
     /// Sees that no word is left.

@@ -10,7 +10,9 @@ pub(crate) fn copy_of(alloc: Global, mill: &Mill) -> Result<Mill, AllocError>
     let sizes = Vec::from_slice(alloc, mill.sizes())?;
     let orders = Vec::from_slice(alloc, mill.orders())?;
     let yard = Vec::from_slice(alloc, mill.yard())?;
+    let bars = Vec::from_slice(alloc, mill.bars())?;
     let mut copy = Mill::new(sizes, mill.colours(), orders);
-    copy.put_yard(Yard::new(yard));
+    copy.set_colour_limit(mill.colour_limit());
+    copy.put_yard(Yard::new(yard, bars));
     Ok(copy)
 }

@@ -9,7 +9,7 @@ use std::test::Fail;
 
 /// A mill that casts slabs of 4 and of 10, with two orders of weight 4 and one colour.
 fn mill_of_two_orders(alloc: Global) -> Result<Mill, AllocError>
-    ensures { IfOk result (λ mill. mill ≡ record { sizes = 4 ∷ 10 ∷ []; colours = 1; orders = record { weight = 4; colour = 1 } ∷ record { weight = 4; colour = 1 } ∷ []; yard = [] }) }
+    ensures { IfOk result (λ mill. mill ≡ record { sizes = 4 ∷ 10 ∷ []; colours = 1; colour_limit = 2; orders = record { weight = 4; colour = 1 } ∷ record { weight = 4; colour = 1 } ∷ []; yard = []; bars = [] }) }
 {
     let order = Order {
         weight: 4,

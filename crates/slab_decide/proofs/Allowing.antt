@@ -219,16 +219,15 @@ second_alike : (v : Decisions) (ask : Ask) (k l : Kind) (orders : List ℕ) → 
 second_alike v (Pair i j) k l orders h alike = refl
 second_alike v (Put o s) k l orders h alike = alike s h.1
 
-answers : Bool → Bool → Bool → Bool
-answers b f s = cond b (cond f s (not s)) (not (f && s))
+agrees_alike_one : (v : Decisions) (ask : Ask) (b : Bool) (k l : Kind) (orders : List ℕ) → IsAskOf v ask → ((s : ℕ) → s < v.yard → is_old s k ≡ is_old s l) → agrees (record { kind = k; orders = orders }) (ask, b) ≡ agrees (record { kind = l; orders = orders }) (ask, b)
+agrees_alike_one v ask true k l orders h alike = rw (first_alike ask k l orders, second_alike v ask k l orders h alike) refl
+agrees_alike_one v ask false k l orders h alike = rw (first_alike ask k l orders, second_alike v ask k l orders h alike) refl
 
 pub agrees_alike : (v : Decisions) (list : List Decision) (k l : Kind) (orders : List ℕ) → AllByRecursion (λ (d : Decision). IsAskOf v d.0) list → ((s : ℕ) → s < v.yard → is_old s k ≡ is_old s l)
     → column_agrees list (record { kind = k; orders = orders }) ≡ column_agrees list (record { kind = l; orders = orders })
 agrees_alike v [] k l orders asks alike = refl
 agrees_alike v (d ∷ list) k l orders asks alike =
-    let first : first_test d.0 (record { kind = k; orders = orders }) ≡ first_test d.0 (record { kind = l; orders = orders }) = first_alike d.0 k l orders in
-    let second : second_test d.0 (record { kind = k; orders = orders }) ≡ second_test d.0 (record { kind = l; orders = orders }) = second_alike v d.0 k l orders asks.0 alike in
-    rw (first, second, agrees_alike v list k l orders asks.1 alike) refl
+    rw (agrees_alike_one v d.0 d.1 k l orders asks.0 alike, agrees_alike v list k l orders asks.1 alike) refl
 
 pub orders_in : (low high yard : ℕ) (xs : List ℕ) → Rises low high xs → All (λ o. yard + o < yard + high) xs
 orders_in low high yard [] h k d l = absurd (omega (arith, l))

@@ -1,3 +1,4 @@
 pub mod Fraction
 pub mod Lowest
+pub mod Odd
 pub mod Scaled

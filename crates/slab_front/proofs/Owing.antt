@@ -6,7 +6,7 @@ use Rattle.slab_desk.specs.Desk.{Files}
 use Rattle.mill_model.specs.declared.sums.Sums.{Sums}
 use Rattle.mill_model.specs.declared.illegal.Illegal.{Illegal}
 use Rattle.mill_model.specs.declared.illegal.Illegal.TheVariants.{Places}
-use Rattle.mill_model.specs.Mill.{Mill}
+use Rattle.mill_model.specs.Mill.{Mill, with_yard}
 use Rattle.mill_model.specs.Plans.{Plan}
 use Rattle.mill_model.specs.Judging.{first_broken, breaks, rules_of}
 use Rattle.mill_model.specs.Fronts.{IsFront, IsPoint, pairs_of}
@@ -39,7 +39,7 @@ owes_yard : (owes : Mill → Owing) (files : Files) (yard : Option (List ℕ)) (
     → HasYard yard bare mill files → owes mill status text → OwesOfYard owes files yard bare status text
 owes_yard owes files None bare mill status text is owed = subst (λ (m : Mill). owes m status text) is owed
 owes_yard owes files (Some name) bare mill status text (yard, has, is) owed =
-    owes_value YardSource yard_file (λ y. owes (record bare { yard = y })) files name yard status text has (subst (λ (m : Mill). owes m status text) is owed)
+    owes_value YardSource (yard_file (length bare.orders)) (λ y. owes (with_yard bare y)) files name yard status text has (subst (λ (m : Mill). owes m status text) is owed)
 
 -- of files that have a mill what follows is owed
 pub owes_mill : (owes : Mill → Owing) (files : Files) (orders : List ℕ) (yard : Option (List ℕ)) (mill : Mill) (status : ℕ) (text : List ℕ)

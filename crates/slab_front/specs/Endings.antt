@@ -4,7 +4,7 @@ use Rattle.std.specs.String.{string_bytes}
 use Rattle.std.specs.FinMap.{get}
 use Rattle.slab_counter.specs.Counter.{Rose}
 use Rattle.slab_desk.specs.Desk.{Told, Files, Steps, WhereTold, HasLongFile, Says, WithPrefix}
-use Rattle.mill_model.specs.Mill.{Mill}
+use Rattle.mill_model.specs.Mill.{Mill, Yard, with_yard}
 use Rattle.mill_read.specs.declared.fault.TextFault.{TextFault}
 use Rattle.mill_read.specs.declared.fault.TextError.{TextError}
 use Rattle.mill_read.specs.declared.fault.TextError.TheVariants.{Text}
@@ -24,7 +24,7 @@ HasValue reading name value files = (bytes : List ℕ) × (get files name ≡ So
 
 abbrev pub HasYard : Option (List ℕ) → Mill → Mill → Files → Type 0
 HasYard None bare mill files = mill ≡ bare
-HasYard (Some name) bare mill files = (yard : List ℕ) × HasValue yard_file name yard files × (mill ≡ record bare { yard = yard })
+HasYard (Some name) bare mill files = (yard : Yard) × HasValue (yard_file (length bare.orders)) name yard files × (mill ≡ with_yard bare yard)
 
 -- the mill of the order file, with the yard of the yard file
 abbrev pub HasMill : List ℕ → Option (List ℕ) → Mill → Files → Type 0

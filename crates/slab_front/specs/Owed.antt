@@ -5,7 +5,7 @@ use Rattle.std.specs.FinMap.{get}
 use Rattle.slab_desk.specs.Desk.{Told, Files, WithPrefix}
 use Rattle.mill_model.specs.declared.sums.Sums.{Sums}
 use Rattle.mill_model.specs.declared.illegal.Illegal.{Illegal}
-use Rattle.mill_model.specs.Mill.{Mill}
+use Rattle.mill_model.specs.Mill.{Mill, with_yard}
 use Rattle.mill_model.specs.Plans.{Plan, IsLegal, sums_of}
 use Rattle.mill_model.specs.Judging.{first_broken}
 use Rattle.mill_model.specs.Fronts.{IsFront, IsPoint, pairs_of}
@@ -43,7 +43,7 @@ OwesOfFile source reading owes files name status text =
 -- the mill has the yard of this file, where one is named
 abbrev pub OwesOfYard : (Mill → Owing) → Files → Option (List ℕ) → Mill → Owing
 OwesOfYard owes files None mill = owes mill
-OwesOfYard owes files (Some name) mill = OwesOfFile YardSource yard_file (λ yard. owes (record mill { yard = yard })) files name
+OwesOfYard owes files (Some name) mill = OwesOfFile YardSource (yard_file (length mill.orders)) (λ yard. owes (with_yard mill yard)) files name
 
 -- the order file, and then the yard file
 abbrev pub OwesOfMill : (Mill → Owing) → Files → List ℕ → Option (List ℕ) → Owing

@@ -3,7 +3,7 @@ use Rattle.std.specs.Prelude.{◌≡◌, ℕ, ◌+◌, List, [], ◌∷◌, ◌+
 use Rattle.std.specs.Fmt.{decimal}
 use Rattle.mill_model.specs.declared.sums.Sums.{Sums}
 use Rattle.mill_model.specs.declared.illegal.Illegal.{Illegal}
-use Rattle.mill_model.specs.declared.illegal.Illegal.TheVariants.{Places, Place, Empty, Size, Yard, Twice, Load, Colours}
+use Rattle.mill_model.specs.declared.illegal.Illegal.TheVariants.{Places, Place, Empty, Size, Yard, Twice, Load, Colours, Barred}
 use Rattle.mill_read.specs.declared.fault.TextFault.{TextFault}
 use Rattle.mill_read.specs.declared.fault.Why.{Why}
 use Rattle.mill_read.specs.declared.fault.Why.TheVariants.{Missing, NotNumber, Range, Colour, Kind, Extra}
@@ -66,3 +66,4 @@ SaysBroken (Yard slab) text = text ≡ slab_text slab (codes "yard")
 SaysBroken (Twice slab) text = text ≡ slab_text slab (codes "twice")
 SaysBroken (Load slab) text = text ≡ slab_text slab (codes "load")
 SaysBroken (Colours slab) text = text ≡ slab_text slab (codes "colours")
+SaysBroken (Barred slab) text = text ≡ slab_text slab (codes "barred")

@@ -2,6 +2,7 @@
 ghost use Rattle.std.specs.Prelude.{◌≡◌, ◌≤◌, [], length, IfOk, IfErr};
 ghost use Rattle.std.specs.Option.{option_map};
 ghost use Rattle.slab_desk.specs.Desk.{Steps, WhereTold, HasFile, HasLongFile, ChangesLeft};
+ghost use Rattle.mill_model.specs.Mill.{AreBarsAmong};
 ghost use Rattle.mill_read.specs.OrderFile.{order_file};
 ghost use Rattle.mill_read.specs.YardFile.{yard_file};
 ghost use Rattle.mill_read.specs.PlanFile.{plan_file};
@@ -34,7 +35,8 @@ pub fn read_mill<D: Desk>(
     match yard {
         None => Ok(mill),
         Some(name) => {
-            mill.put_yard(yard_in(alloc, desk, name)?);
+            let yard = yard_in(alloc, desk, &mill, name)?;
+            mill.put_yard(yard);
             Ok(mill)
         }
     }
@@ -55,15 +57,16 @@ fn bare_mill<D: Desk>(alloc: Global, desk: &mut D, name: &str) -> Result<Mill, S
     }
 }
 
-// The yard of a yard file.
-fn yard_in<D: Desk>(alloc: Global, desk: &mut D, name: &str) -> Result<Yard, Stop>
-    ensures yard { IfOk result (λ yard. WhereTold (D.told desk.old) (λ t. HasValue yard_file name.now yard t.files)) }
-    ensures stop { IfErr result (IsStop (λ files. OwesOfFile Source.Yard yard_file Nothing files name.now) (D.told desk.old) (D.faults desk.old) (D.faults desk.new)) }
+// The yard of a yard file, for a mill.
+fn yard_in<D: Desk>(alloc: Global, desk: &mut D, mill: &Mill, name: &str) -> Result<Yard, Stop>
+    ensures yard { IfOk result (λ yard. WhereTold (D.told desk.old) (λ t. HasValue (yard_file (length mill.now.orders)) name.now yard t.files)) }
+    ensures bars { IfOk result (λ yard. AreBarsAmong (length mill.now.orders) yard.bars) }
+    ensures stop { IfErr result (IsStop (λ files. OwesOfFile Source.Yard (yard_file (length mill.now.orders)) Nothing files name.now) (D.told desk.old) (D.faults desk.old) (D.faults desk.new)) }
     ensures left { Steps (D.told desk.old) (D.told desk.new) ChangesLeft }
     ensures later { D.faults desk.old ≤ D.faults desk.new }
 {
     let bytes = bytes_in(alloc, desk, Source::Yard, name)?;
-    match read_yard(alloc, &bytes) {
+    match read_yard(alloc, mill, &bytes) {
         Ok(yard) => Ok(yard),
         Err(error) => Err(refusal(alloc, Source::Yard, error)),
     }

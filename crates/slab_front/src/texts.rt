@@ -92,6 +92,7 @@ pub fn illegal_text(alloc: Global, rule: Illegal) -> Result<String, AllocError>
         Illegal::Twice(slab) => slab_text(alloc, slab, "twice"),
         Illegal::Load(slab) => slab_text(alloc, slab, "load"),
         Illegal::Colours(slab) => slab_text(alloc, slab, "colours"),
+        Illegal::Barred(slab) => slab_text(alloc, slab, "barred"),
     }
 }
 

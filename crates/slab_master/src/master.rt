@@ -59,8 +59,8 @@ impl Master {
         Ok(())
     }
 
-    /// Finds multipliers for the given columns that meet every row, or prices that show that there are none. The
-    /// working rows are made anew, and what stands in them afterwards isn't told. `Wide` comes only where `wides` rose,
+    /// Finds multipliers for the given columns that meet every row, or prices that show that there are none. It goes on
+    /// from where the solve before ended; what stands in the working rows isn't told. `Wide` comes only where `wides` rose,
     /// `Stalled` only where this call made 20,000 pivots without an answer; exactly that raises the count of `stalls`.
     /// The rows and the columns are as before after each outcome, and after an error too.
     pub fn solve(
@@ -86,12 +86,13 @@ impl Master {
         )
     }
 
-    /// Lends one working row for writing, which is empty before the first solve. What was given stays, and each solve makes
-    /// its working rows anew.
+    /// Lends one working row for writing, which is empty before the first solve. What was given stays, and the next solve
+    /// makes its working rows anew.
     pub fn row_mut(&mut self, i: usize) -> &mut [Frac]
         requires { i < length self.old.rows }
         ensures* { sem 𝓛 (LendsWorkingRow self.entry result) }
     {
+        self.tableau.live = false;
         self.tableau.rows[i].as_mut_slice()
     }
 }

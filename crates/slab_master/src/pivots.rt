@@ -1,9 +1,11 @@
-ghost use Rattle.std.specs.Prelude.{ℕ, ◌≡◌, ◌≤◌, vec_len};
+ghost use Rattle.std.specs.Prelude.{ℕ, ◌≡◌, ◌≤◌, vec_len, length, All, IfNone};
+ghost use Rattle.slab_master.specs.Given.{IsColumn};
 ghost use Rattle.std.specs.Bool.{OnFalse};
 ghost use Rattle.slab_counter.specs.Counter.{Rose};
 
-use crate::tableau::{Tableau, cell_at, right_side, subtract_multiple};
-use slab_frac::{Frac, Wides};
+use crate::given::Sense;
+use crate::tableau::{Tableau, cell_at, right_side, subtract_multiple, turned};
+use slab_frac::{Frac, Wides, scale_all};
 use std::cmp::Ordering;
 use std::mem;
 
@@ -34,36 +36,134 @@ enum Leaving {
     Unbounded,
 }
 
-/// The first place with a negative cost.
-fn first_negative(costs: &[Frac]) -> Option<usize> {
-    costs.iter().position(|cost| cost.num() < 0)
+/// The cost of a column, by the scaled costs of the unit columns.
+fn cost_of(scaled: &[i64], column: &[(u16, i64)]) -> i128 {
+    let mut total: i128 = 0;
+    for (row, entry) in column {
+        let i = *row as usize;
+        if i < scaled.len() {
+            total = total.wrapping_add(scaled[i] as i128 * *entry as i128);
+        }
+    }
+    total
 }
 
-/// The place of the least cost, if that is negative.
-fn most_negative(costs: &[Frac]) -> Option<usize> {
+/// The place of the least cost among the preferred columns, if that is negative.
+fn least_preferred(scaled: &[i64], columns: &[Vec<(u16, i64)>], places: &[usize]) -> Option<usize> {
     let mut place = None;
-    let mut least = Frac::whole(0);
-    for (j, cost) in costs.iter().enumerate() {
-        if cost.num() < 0 && cost.cmp(&least) == Ordering::Less {
+    let mut least: i128 = 0;
+    for &j in places {
+        if j < columns.len() {
+            let cost = cost_of(scaled, columns[j].as_slice());
+            if cost < least {
+                place = Some(j);
+                least = cost;
+            }
+        }
+    }
+    place
+}
+
+/// The place of the least cost of all, or the first one that is negative.
+fn least_of_all(
+    scaled: &[i64],
+    rows: &[(Sense, i64)],
+    columns: &[Vec<(u16, i64)>],
+    first: bool,
+) -> Option<usize> {
+    let mut place = None;
+    let mut least: i128 = 0;
+    for (j, column) in columns.iter().enumerate() {
+        let cost = cost_of(scaled, column.as_slice());
+        if cost < least {
             place = Some(j);
-            least = *cost;
+            least = cost;
+            if first {
+                return place;
+            }
+        }
+    }
+    let mut slack = columns.len();
+    for (i, row) in rows.iter().enumerate() {
+        if row.0 == Sense::AtMost {
+            if i < scaled.len() && (scaled[i] as i128) < least {
+                place = Some(slack);
+                least = scaled[i] as i128;
+                if first {
+                    return place;
+                }
+            }
+            slack = slack.saturating_add(1);
         }
     }
     place
 }
 
-/// The same among some places.
-fn most_negative_among(costs: &[Frac], places: &[usize]) -> Option<usize> {
-    let mut place = None;
-    let mut least = Frac::whole(0);
-    for j in places {
-        let cost = cell_at(costs, *j);
-        if cost.num() < 0 && cost.cmp(&least) == Ordering::Less {
-            place = Some(*j);
-            least = cost;
+/// Turns the signs of the rows that stand turned.
+fn turn_back(scaled: &mut [i64], rows: &[(Sense, i64)]) {
+    for (number, row) in scaled.iter_mut().zip(rows) {
+        if row.1 < 0 {
+            *number = number.wrapping_neg();
         }
     }
-    place
+}
+
+/// The row of the slack that is the given one among them.
+fn slack_row(rows: &[(Sense, i64)], slack: usize) -> Option<usize> {
+    let mut left = slack;
+    for (i, row) in rows.iter().enumerate() {
+        if row.0 == Sense::AtMost {
+            if left == 0 {
+                return Some(i);
+            }
+            left = left.saturating_sub(1);
+        }
+    }
+    None
+}
+
+/// A row's cell of a column that is made of unit columns; none only where a fraction left its range.
+fn combined(
+    cells: &[Frac],
+    rows: &[(Sense, i64)],
+    column: &[(u16, i64)],
+    wides: &mut Wides,
+) -> Option<Frac>
+    requires { IsColumn (length rows.now) column.now }
+    ensures grows { wides.old ≤ wides.new }
+    ensures wide { IfNone result (Rose wides.old wides.new) }
+{
+    let mut sum = Frac::whole(0);
+    for (row, entry) in column {
+        let i = *row as usize;
+        let cell = cell_at(cells, i);
+        if cell.num() != 0 {
+            let factor = turned(*entry, rows[i].1 >= 0);
+            sum = sum.minus_product(&factor, &cell, wides)?;
+        }
+    }
+    Some(sum)
+}
+
+/// Writes the cells of a column, one for each row. False comes only where a fraction left its range.
+fn fill_direction(
+    direction: &mut [Frac],
+    working: &[Vec<Frac>],
+    rows: &[(Sense, i64)],
+    column: &[(u16, i64)],
+    wides: &mut Wides,
+) -> bool
+    requires { IsColumn (length rows.now) column.now }
+    ensures grows { wides.old ≤ wides.new }
+    ensures wide { OnFalse result (Rose wides.old wides.new) }
+{
+    for (place, cells) in direction.iter_mut().zip(working) {
+        let Some(cell) = combined(cells.as_slice(), rows, column, wides) else {
+            return false;
+        };
+        *place = cell;
+    }
+    true
 }
 
 /// Whether a candidate leaves before the best one so far.
@@ -91,7 +191,7 @@ fn leaving_row(
     rows: &[Vec<Frac>],
     basis: &[usize],
     enterable: usize,
-    column: usize,
+    direction: &[Frac],
     wides: &mut Wides,
 ) -> Leaving
     ensures grows { wides.old ≤ wides.new }
@@ -99,7 +199,7 @@ fn leaving_row(
 {
     let mut best = None;
     for (row, cells) in rows.iter().enumerate() {
-        let cell = cell_at(cells.as_slice(), column);
+        let cell = cell_at(direction, row);
         if cell.num() > 0 {
             let Some(ratio) = right_side(cells.as_slice()).div(&cell, wides) else {
                 return Leaving::Wide;
@@ -136,46 +236,88 @@ fn divide_row(row: &mut [Frac], divisor: &Frac, wides: &mut Wides) -> bool
     true
 }
 
-/// Takes so much of the pivot row off a row that its cell in the column is 0. False comes only where a fraction left
+/// Takes so much of the pivot row off each row that the entering column is 0 there. False comes only where a fraction left
 /// its range.
-fn clear_cell(row: &mut [Frac], pivot: &[Frac], column: usize, wides: &mut Wides) -> bool
+fn clear_cells(
+    rows: &mut [Vec<Frac>],
+    pivot: &[Frac],
+    direction: &[Frac],
+    wides: &mut Wides,
+) -> bool
     ensures grows { wides.old ≤ wides.new }
     ensures wide { OnFalse result (Rose wides.old wides.new) }
 {
-    let factor = cell_at(row, column);
-    factor.num() == 0 || subtract_multiple(row, pivot, &factor, wides)
-}
-
-/// The same for every row.
-fn clear_cells(rows: &mut [Vec<Frac>], pivot: &[Frac], column: usize, wides: &mut Wides) -> bool
-    ensures grows { wides.old ≤ wides.new }
-    ensures wide { OnFalse result (Rose wides.old wides.new) }
-{
-    for row in rows.iter_mut() {
-        if !clear_cell(row, pivot, column, wides) {
+    for (row, factor) in rows.iter_mut().zip(direction) {
+        if factor.num() != 0 && !subtract_multiple(row, pivot, factor, wides) {
             return false;
         }
     }
     true
 }
 
+/// What may enter.
+enum Entering {
+    Column(usize),
+    Optimal,
+    Wide,
+}
+
 impl Tableau {
     /// The column that enters: of the preferred ones, else of all, the one with the least cost. None enters where the
     /// artificial variables are all 0.
-    fn entering(&self) -> Option<usize> {
+    fn entering(
+        &mut self,
+        rows: &[(Sense, i64)],
+        columns: &[Vec<(u16, i64)>],
+        wides: &mut Wides,
+    ) -> Entering
+        ensures rows { vec_len self.new.rows ≡ vec_len self.old.rows }
+        ensures grows { wides.old ≤ wides.new }
+        ensures wide { result ≡ Entering.Wide → Rose wides.old wides.new }
+    {
         if right_side(&self.costs).num() == 0 {
-            return None;
+            return Entering::Optimal;
         }
-        let count = self.enterable.min(self.costs.len());
-        let costs = &self.costs[..count];
+        let count = self.scaled.len();
+        if self.costs.len() < count {
+            return Entering::Optimal;
+        }
+        if scale_all(&self.costs[..count], wides, &mut self.scaled).is_none() {
+            return Entering::Wide;
+        }
+        turn_back(&mut self.scaled, rows);
         let patience = self.rows.len().saturating_mul(4).saturating_add(IDLE);
-        if self.idle >= patience {
-            return first_negative(costs);
+        let first = self.idle >= patience;
+        let mut found = None;
+        if !first {
+            found = least_preferred(&self.scaled, columns, &self.preferred);
         }
-        match most_negative_among(costs, &self.preferred) {
-            Some(column) => Some(column),
-            None => most_negative(costs),
+        if found.is_none() {
+            found = least_of_all(&self.scaled, rows, columns, first);
         }
+        match found {
+            Some(column) => Entering::Column(column),
+            None => Entering::Optimal,
+        }
+    }
+
+    /// Writes the cells of a column of a place, and its cost. False comes only where a fraction left its range.
+    fn direct(&mut self, rows: &[(Sense, i64)], column: &[(u16, i64)], wides: &mut Wides) -> bool
+        requires { IsColumn (length rows.now) column.now }
+        ensures rows { vec_len self.new.rows ≡ vec_len self.old.rows }
+        ensures grows { wides.old ≤ wides.new }
+        ensures wide { OnFalse result (Rose wides.old wides.new) }
+    {
+        if !fill_direction(&mut self.direction, &self.rows, rows, column, wides) {
+            return false;
+        }
+        let Some(cost) = combined(&self.costs, rows, column, wides) else {
+            return false;
+        };
+        if let Some(last) = self.direction.last_mut() {
+            *last = cost;
+        }
+        true
     }
 
     /// Exchanges a row of the tableau with the row that was taken out.
@@ -187,20 +329,21 @@ impl Tableau {
         }
     }
 
-    /// Makes a unit column of the column by the row that was taken out. False comes only where a fraction left its range.
-    fn eliminate(&mut self, column: usize, wides: &mut Wides) -> bool
+    /// Makes a unit column of the entering column by the row that was taken out. False comes only where a fraction left its range.
+    fn eliminate(&mut self, row: usize, wides: &mut Wides) -> bool
         ensures rows { vec_len self.new.rows ≡ vec_len self.old.rows }
         ensures grows { wides.old ≤ wides.new }
         ensures wide { OnFalse result (Rose wides.old wides.new) }
     {
-        let pivot = cell_at(&self.taken, column);
+        let pivot = cell_at(&self.direction, row);
         if !divide_row(&mut self.taken, &pivot, wides) {
             return false;
         }
-        if !clear_cells(&mut self.rows, &self.taken, column, wides) {
+        if !clear_cells(&mut self.rows, &self.taken, &self.direction, wides) {
             return false;
         }
-        clear_cell(&mut self.costs, &self.taken, column, wides)
+        let cost = right_side(&self.direction);
+        cost.num() == 0 || subtract_multiple(&mut self.costs, &self.taken, &cost, wides)
     }
 
     /// Lets a column enter in a row. False comes only where a fraction left its range.
@@ -210,7 +353,7 @@ impl Tableau {
         ensures wide { OnFalse result (Rose wides.old wides.new) }
     {
         self.exchange(row);
-        let fits = self.eliminate(column, wides);
+        let fits = self.eliminate(row, wides);
         self.exchange(row);
         if row < self.basis.len() {
             self.basis[row] = column;
@@ -218,16 +361,59 @@ impl Tableau {
         fits
     }
 
+    /// Writes the cells of the column of a place. False comes only where a fraction left its range.
+    fn direct_to(
+        &mut self,
+        rows: &[(Sense, i64)],
+        columns: &[Vec<(u16, i64)>],
+        place: usize,
+        wides: &mut Wides,
+    ) -> bool
+        requires columns { All (λ c. IsColumn (length rows.now) c.items) columns.now }
+        ensures rows { vec_len self.new.rows ≡ vec_len self.old.rows }
+        ensures grows { wides.old ≤ wides.new }
+        ensures wide { OnFalse result (Rose wides.old wides.new) }
+    {
+        if place < columns.len() {
+            return self.direct(rows, columns[place].as_slice(), wides);
+        }
+        let Some(row) = slack_row(rows, place.saturating_sub(columns.len())) else {
+            return true;
+        };
+        if row >= rows.len() || row > 65535 {
+            return true;
+        }
+        let entry = [(row as u16, 1)];
+        self.direct(rows, &entry, wides)
+    }
+
     /// One step of the simplex.
-    pub(crate) fn step(&mut self, wides: &mut Wides) -> Step
+    pub(crate) fn step(
+        &mut self,
+        rows: &[(Sense, i64)],
+        columns: &[Vec<(u16, i64)>],
+        wides: &mut Wides,
+    ) -> Step
+        requires columns { All (λ c. IsColumn (length rows.now) c.items) columns.now }
         ensures rows { vec_len self.new.rows ≡ vec_len self.old.rows }
         ensures grows { wides.old ≤ wides.new }
         ensures wide { result ≡ Step.Wide → Rose wides.old wides.new }
     {
-        let Some(column) = self.entering() else {
-            return Step::Optimal;
+        let column = match self.entering(rows, columns, wides) {
+            Entering::Column(column) => column,
+            Entering::Optimal => return Step::Optimal,
+            Entering::Wide => return Step::Wide,
         };
-        match leaving_row(&self.rows, &self.basis, self.enterable, column, wides) {
+        if !self.direct_to(rows, columns, column, wides) {
+            return Step::Wide;
+        }
+        match leaving_row(
+            &self.rows,
+            &self.basis,
+            self.enterable,
+            &self.direction,
+            wides,
+        ) {
             Leaving::Row(leaver) => {
                 self.idle = if leaver.ratio.num() == 0 {
                     self.idle.saturating_add(1)

@@ -36,7 +36,7 @@ fn read_prices(
 {
     let mut prices = Vec::new(alloc);
     for (i, row) in rows.iter().enumerate() {
-        let cost = cell_at(&tableau.costs, tableau.enterable.saturating_add(i));
+        let cost = cell_at(&tableau.costs, i);
         let sign = Frac::whole(if row.1 < 0 { 1 } else { -1 });
         let price = cost.mul(&sign, wides).unwrap_or(Frac::whole(0));
         prices.push(price)?;

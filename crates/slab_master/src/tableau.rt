@@ -1,14 +1,14 @@
 ghost use Rattle.std.specs.Prelude.{ℕ, ◌≡◌, ◌^◌, ◌<◌, ◌≤◌, ℤ, unsigned_abs, vec_len, length, All, IfOk};
 ghost use Rattle.std.specs.Bool.{OnFalse};
 ghost use Rattle.slab_counter.specs.Counter.{Rose};
-ghost use Rattle.slab_master.specs.Given.{AreRows, IsColumn, IsSmall};
+ghost use Rattle.slab_master.specs.Given.{AreRows, IsSmall};
 
 use crate::given::Sense;
 use slab_frac::{Frac, Wides};
 use std::alloc::{AllocError, Global};
 
-/// The working rows of a phase-one simplex. Their cells are the given columns, a slack for each AtMost row, a unit
-/// column for each row, and the right side. A row whose right side is negative stands with all signs turned.
+/// The working rows of a phase-one simplex, by the inverse of the basis. Their cells are a unit column for each row, and the
+/// right side; a given column is made of unit columns as it enters. A row whose right side is negative stands with all signs turned.
 #[derive(Drop)]
 pub(crate) struct Tableau {
     pub(crate) rows: Vec<Vec<Frac>>,
@@ -33,6 +33,15 @@ pub(crate) struct Tableau {
 
     /// How many pivots in a row moved nothing.
     pub(crate) idle: usize,
+
+    /// The entering column by the basis, with its cost at the end.
+    pub(crate) direction: Vec<Frac>,
+
+    /// Room for a whole number for each row.
+    pub(crate) scaled: Vec<i64>,
+
+    /// Whether the rows stand as a solve left them.
+    pub(crate) live: bool,
 }
 
 /// The cell at a place, or 0 past the end.
@@ -55,7 +64,7 @@ pub(crate) fn right_side(row: &[Frac]) -> Frac {
 }
 
 /// A small number as a fraction, with its sign turned or not.
-fn turned(n: i64, turn: bool) -> Frac
+pub(crate) fn turned(n: i64, turn: bool) -> Frac
     requires { IsSmall n }
 {
     Frac::whole(if turn { -n } else { n })
@@ -92,64 +101,6 @@ pub(crate) fn subtract_multiple(
     true
 }
 
-/// Adds to a cell, if it is there. False comes only where a fraction left its range.
-fn add_to(rows: &mut [Vec<Frac>], row: usize, place: usize, part: &Frac, wides: &mut Wides) -> bool
-    ensures grows { wides.old ≤ wides.new }
-    ensures wide { OnFalse result (Rose wides.old wides.new) }
-{
-    if row < rows.len() {
-        let cells = &mut rows[row];
-        if place < cells.len() {
-            let Some(sum) = cells[place].add(part, wides) else {
-                return false;
-            };
-            cells[place] = sum;
-        }
-    }
-    true
-}
-
-/// Adds a given column to the working rows, where a row that is named twice has the sum of its entries. False comes only
-/// where a fraction left its range.
-fn put_column(
-    working: &mut [Vec<Frac>],
-    rows: &[(Sense, i64)],
-    column: &[(u16, i64)],
-    place: usize,
-    wides: &mut Wides,
-) -> bool
-    requires { IsColumn (length rows.now) column.now }
-    ensures grows { wides.old ≤ wides.new }
-    ensures wide { OnFalse result (Rose wides.old wides.new) }
-{
-    for (row, entry) in column {
-        let i = *row as usize;
-        if !add_to(working, i, place, &turned(*entry, rows[i].1 < 0), wides) {
-            return false;
-        }
-    }
-    true
-}
-
-/// Adds the given columns to the working rows. False comes only where a fraction left its range.
-fn put_columns(
-    working: &mut [Vec<Frac>],
-    rows: &[(Sense, i64)],
-    columns: &[Vec<(u16, i64)>],
-    wides: &mut Wides,
-) -> bool
-    requires { All (λ c. IsColumn (length rows.now) c.items) columns.now }
-    ensures grows { wides.old ≤ wides.new }
-    ensures wide { OnFalse result (Rose wides.old wides.new) }
-{
-    for (j, column) in columns.iter().enumerate() {
-        if !put_column(working, rows, column.as_slice(), j, wides) {
-            return false;
-        }
-    }
-    true
-}
-
 /// Writes zeros into each working row, so many.
 fn clear_rows(working: &mut [Vec<Frac>], width: usize) -> Result<(), AllocError> {
     for row in working.iter_mut() {
@@ -159,7 +110,7 @@ fn clear_rows(working: &mut [Vec<Frac>], width: usize) -> Result<(), AllocError>
     Ok(())
 }
 
-/// Writes slacks, unit columns and right sides into the working rows, and makes the first basis of them.
+/// Writes unit columns and right sides into the working rows, and makes the first basis of them and of slacks.
 fn put_units(
     working: &mut [Vec<Frac>],
     basis: &mut Vec<usize>,
@@ -171,15 +122,12 @@ fn put_units(
 {
     basis.clear();
     let mut slack = given;
-    let right = enterable.saturating_add(rows.len());
     for (i, row) in rows.iter().enumerate() {
         let turn = row.1 < 0;
-        let unit = enterable.saturating_add(i);
-        put(working, i, unit, Frac::whole(1));
-        put(working, i, right, turned(row.1, turn));
-        let mut basic = unit;
+        put(working, i, i, Frac::whole(1));
+        put(working, i, rows.len(), turned(row.1, turn));
+        let mut basic = enterable.saturating_add(i);
         if row.0 == Sense::AtMost {
-            put(working, i, slack, turned(1, turn));
             if !turn {
                 basic = slack;
             }
@@ -234,6 +182,9 @@ impl Tableau {
             taken: Vec::new(alloc),
             enterable: 0,
             idle: 0,
+            direction: Vec::new(alloc),
+            scaled: Vec::new(alloc),
+            live: false,
         })
     }
 
@@ -250,7 +201,7 @@ impl Tableau {
         Ok(())
     }
 
-    /// Makes the working rows anew from the rows and columns given. False comes only where a fraction left its range.
+    /// Makes the working rows anew from the rows given, for so many columns. False comes only where a fraction left its range.
     pub(crate) fn start(
         &mut self,
         rows: &[(Sense, i64)],
@@ -258,22 +209,23 @@ impl Tableau {
         wides: &mut Wides,
     ) -> Result<bool, AllocError>
         requires rows { AreRows rows.now }
-        requires columns { All (λ c. IsColumn (length rows.now) c.items) columns.now }
         ensures rows { vec_len self.new.rows ≡ vec_len self.old.rows }
         ensures grows { wides.old ≤ wides.new }
         ensures wide { IfOk result (λ fits. OnFalse fits (Rose wides.old wides.new)) }
     {
+        self.live = false;
         self.basis.clear();
         self.given = columns.len();
         self.enterable = columns.len().saturating_add(count_slacks(rows));
         self.idle = 0;
-        let width = self.enterable.saturating_add(rows.len()).saturating_add(1);
+        let width = rows.len().saturating_add(1);
         self.costs.clear();
         self.costs.resize(width, Frac::whole(0))?;
+        self.direction.clear();
+        self.direction.resize(width, Frac::whole(0))?;
+        self.scaled.clear();
+        self.scaled.resize(rows.len(), 0)?;
         clear_rows(&mut self.rows, width)?;
-        if !put_columns(&mut self.rows, rows, columns, wides) {
-            return Ok(false);
-        }
         put_units(
             &mut self.rows,
             &mut self.basis,
@@ -288,5 +240,26 @@ impl Tableau {
             &mut self.costs,
             wides,
         ))
+    }
+
+    /// Goes on with the rows of the solve before, where columns were added since.
+    pub(crate) fn grow(&mut self, count: usize)
+        ensures rows { vec_len self.new.rows ≡ vec_len self.old.rows }
+    {
+        let added = count.saturating_sub(self.given);
+        shift(&mut self.basis, self.given, added);
+        self.given = count;
+        self.enterable = self.enterable.saturating_add(added);
+        self.idle = 0;
+        self.preferred.clear();
+    }
+}
+
+/// Moves the numbers of slacks and unit columns on.
+fn shift(basis: &mut [usize], given: usize, added: usize) {
+    for basic in basis.iter_mut() {
+        if *basic >= given {
+            *basic = basic.saturating_add(added);
+        }
     }
 }

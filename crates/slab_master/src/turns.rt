@@ -50,7 +50,7 @@ fn turn(
     ensures grows { wides.old ≤ wides.new }
     ensures holds { IfOk result (λ t. TurnHolds rows.now (columns_of columns.now) wides.old wides.new t) }
 {
-    match tableau.step(wides) {
+    match tableau.step(rows, columns, wides) {
         Step::Moved => return Ok(Turn::Again),
         Step::Wide => return Ok(Turn::TooWide),
         Step::Lost => return restart(rows, columns, tableau, wides),
@@ -64,7 +64,8 @@ fn turn(
     }
 }
 
-/// Solves over the rows and columns, with working rows made anew.
+/// Solves over the rows and columns. It goes on with the working rows as the solve before left them, or makes them anew where
+/// that gave no answer or one was lent.
 #[tactic(auto, using(crate::proofs::PivotCounts::rose_by_more, crate::proofs::PivotCounts::rose_at_most_more, crate::proofs::PivotCounts::rose_at_most_weaker))]
 pub(crate) fn solve_over(
     alloc: Global,
@@ -83,14 +84,25 @@ pub(crate) fn solve_over(
     ensures stalls { IfOk result (λ o. stalls.new.stalls ≡ stalls_after o stalls.old.stalls) }
     ensures err { OnErr result (stalls.new.stalls ≡ stalls.old.stalls) }
 {
-    tableau.prefer_basis()?;
-    if !tableau.start(rows, columns, wides)? {
-        return Ok(Outcome::Wide);
+    if tableau.live && tableau.given <= columns.len() {
+        tableau.grow(columns.len());
+    } else {
+        tableau.prefer_basis()?;
+        if !tableau.start(rows, columns, wides)? {
+            return Ok(Outcome::Wide);
+        }
     }
+    tableau.live = false;
     for _turn in 0..PIVOTS {
         match turn(alloc, rows, columns, tableau, wides)? {
-            Turn::Meets(spread) => return Ok(Outcome::Spread(spread)),
-            Turn::Refutes(prices) => return Ok(Outcome::Prices(prices)),
+            Turn::Meets(spread) => {
+                tableau.live = true;
+                return Ok(Outcome::Spread(spread));
+            }
+            Turn::Refutes(prices) => {
+                tableau.live = true;
+                return Ok(Outcome::Prices(prices));
+            }
             Turn::TooWide => return Ok(Outcome::Wide),
             Turn::Again => stalls.add_pivot(),
         }

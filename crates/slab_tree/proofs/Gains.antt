@@ -34,7 +34,7 @@ bare_branched ns ask mark = ap bare_marks (marks_in-append ns (Branched ask mark
 pub bare_closed : (ns : List Node) (p : Prices) → bare_count (ns ++ Closed p ∷ []) ≡ bare_count ns
 bare_closed ns p = ap bare_marks (marks_in-append ns (Closed p ∷ []) ∙ append-nil (marks_in ns))
 
-closed_bares : (p : Prices) (old new : Search) (next : Option (List Decision)) → after_leaf next (record old { nodes = old.nodes ++ Closed p ∷ [] }) new → bare_count new.nodes ≡ bare_count old.nodes
+pub closed_bares : (p : Prices) (old new : Search) (next : Option (List Decision)) → after_leaf next (record old { nodes = old.nodes ++ Closed p ∷ [] }) new → bare_count new.nodes ≡ bare_count old.nodes
 closed_bares p old new None h = ap (λ (t : Search). bare_count t.nodes) h ∙ bare_closed old.nodes p
 closed_bares p old new (Some b) h = ap (λ (t : Search). bare_count t.nodes) h ∙ bare_closed old.nodes p
 

@@ -11,3 +11,6 @@ pub mod Endings
 pub mod Starting
 pub mod StepLists
 pub mod BareMarks
+pub mod Shares
+pub mod Remainders
+pub mod Rewriting

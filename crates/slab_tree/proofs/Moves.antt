@@ -106,7 +106,7 @@ module _ (m : Mill) (limit : ℕ) (old new : Search) (run : IsRunning m old) (ro
           nothing w = cc
       over false f = refl
 
-  branch_step : (ask : Ask) (mark : Mark) → IsOpenAsk m old.path ask → (is_bare mark ≡ false → HasCover m (limits_of old) old.path) → old.opened + 2 ≤ limit → IsBranched ask mark old new → GoesOnFrom m limit old new × IsLater m old new
+  branch_step : (ask : Ask) (mark : Mark) → IsOpenAsk m old.path ask → (is_bare mark ≡ false → HasCover m (limits_of old) old.path) → old.opened + 2 ≤ limit → IsBranched ask mark (record old { opened = old.opened + 2 }) new → GoesOnFrom m limit old new × IsLater m old new
   branch_step ask mark opened covered more h =
       subst (λ (t : Search). GoesOnFrom m limit old t × IsLater m old t) (sym h) (
         record {

@@ -1,5 +1,5 @@
 -- The counts of nodes and of bare splits.
-use Rattle.std.specs.Prelude.{◌≡◌, ℕ, ◌+◌, ◌-◌, ◌≤◌, min, Bool, true, false, if◌then◌else◌}
+use Rattle.std.specs.Prelude.{◌≡◌, ℕ, ◌+◌, ◌-◌, ◌≤◌, min, nat_lt, Bool, true, false, if◌then◌else◌}
 use Rattle.slab_counter.specs.Counter.{last_count}
 
 pub record Counts : Type 0 where
@@ -11,6 +11,10 @@ pub record Counts : Type 0 where
 -- a count after k more: it stands still at its last value
 abbrev pub raised_by : ℕ → ℕ → ℕ
 raised_by n k = min (n + k) last_count
+
+-- one bare split more, where there is a node that isn't one
+abbrev pub noted_bare : Counts → Counts
+noted_bare n = record n { bare = (if nat_lt n.bare n.opened then n.bare + 1 else n.bare) }
 
 -- the counts rose by what a tree gained: its nodes from a to b, its bare splits from c to d
 pub record AreRaised (old new : Counts) (a b c d : ℕ) : Type 0 where

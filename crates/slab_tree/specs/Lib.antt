@@ -6,4 +6,7 @@ pub mod Steps
 pub mod Bounding
 pub mod Searches
 pub mod Stepping
+pub mod Remainders
+pub mod Showing
 pub mod Tightening
+pub mod Rewriting

@@ -30,11 +30,11 @@ abbrev pub IsClosed : Prices → Search → Search → Type 0
 IsClosed p old new = after_leaf (next_branch old.path) (record old { nodes = old.nodes ++ Closed p ∷ [] }) new
 
 abbrev pub IsBranched : Ask → Mark → Search → Search → Type 0
-IsBranched ask mark old new = new ≡ record old { nodes = old.nodes ++ Branched ask mark ∷ []; path = (ask, true) ∷ old.path; opened = old.opened + 2 }
+IsBranched ask mark old new = new ≡ record old { nodes = old.nodes ++ Branched ask mark ∷ []; path = (ask, true) ∷ old.path }
 
 -- the split is made, or refused exactly where it would give more nodes than the limit
 abbrev pub IsSplitUnder : Ask → Mark → ℕ → Search → Search → Bool → Type 0
-IsSplitUnder ask mark limit old new true = (old.opened + 2 ≤ limit) × IsBranched ask mark old new
+IsSplitUnder ask mark limit old new true = (old.opened + 2 ≤ limit) × IsBranched ask mark (record old { opened = old.opened + 2 }) new
 IsSplitUnder ask mark limit old new false = (limit < old.opened + 2) × (new ≡ record old { phase = Refused (is_bare mark) })
 
 -- the root takes the first node

@@ -8,6 +8,8 @@ mod bounding;
 mod node;
 mod nodes;
 mod path;
+mod rest;
+mod showing;
 mod tree;
 
 pub use node::Node;

@@ -1,6 +1,6 @@
 ghost use Rattle.std.specs.Prelude.{◌≡◌, ◌+◌, ◌<◌, ◌≤◌, if◌then◌else◌};
 ghost use Rattle.slab_counter.specs.Counter.{last_count};
-ghost use Rattle.slab_tree.specs.Counts.{raised_by};
+ghost use Rattle.slab_tree.specs.Counts.{raised_by, noted_bare};
 
 use std::marker::Model;
 
@@ -85,6 +85,15 @@ impl Nodes {
         self.add(2);
         if bare && before < self.opened() {
             self.mark_bare();
+        }
+    }
+
+    // Counts a bare split, where there is a node that isn't counted as one.
+    pub(crate) fn note_bare(&mut self)
+        ensures { self.new ≡ noted_bare self.old }
+    {
+        if self.bare < self.opened {
+            self.bare += 1;
         }
     }
 }

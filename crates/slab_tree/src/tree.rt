@@ -1,6 +1,6 @@
 //! One question's tree: what it keeps, and the moves that a search makes in it.
 
-ghost use Rattle.std.specs.Prelude.{◌≡◌, ◌+◌, ◌<◌, ◌≤◌, ◌^◌, ◌↔◌, ◌∷◌, IfOk, OnOk, OnErr, IfSome, IsTrue, IsSome};
+ghost use Rattle.std.specs.Prelude.{◌≡◌, ◌+◌, ◌<◌, ◌≤◌, ◌^◌, ◌↔◌, ◌∷◌, IfOk, OnOk, OnErr, IfSome, IsTrue, IsSome, true};
 ghost use Rattle.mill_model.specs.Limits.{number_of};
 ghost use Rattle.mill_model.specs.Paths.{next_branch as branch_after};
 ghost use Rattle.mill_model.specs.Plans.{IsLegal, sums_of};
@@ -17,6 +17,7 @@ mod run;
 mod tighten;
 
 use crate::path::{next_branch, replay};
+use crate::showing::is_bare;
 use crate::{Node, Nodes};
 use mill_model::{Ask, Limits, Mark, Mill, Plan, Prices};
 use slab_decide::Decisions;
@@ -158,16 +159,29 @@ impl Tree {
         Ok(on)
     }
 
+    // Closes the next node, and turns back to the next branch, whose decisions are then told.
+    fn turn_back(&mut self, prices: Prices, decisions: &mut Decisions) -> Result<bool, AllocError>
+        requires { IsOpenPath decisions.old.orders decisions.old.yard self.old.path }
+        ensures ok { OnOk result (IsClosed prices self.old self.new) }
+        ensures on { IfOk result (λ on. IsTrue on ↔ IsSome (branch_after self.old.path)) }
+        ensures err { OnErr result (self.new ≡ self.old) }
+        ensures told { IfOk result (λ on. on ≡ true → decisions.new ≡ record decisions.old { list = self.new.path }) }
+    {
+        let on = self.close(prices)?;
+        if on {
+            self.tell(decisions);
+        }
+        Ok(on)
+    }
+
     // Splits the next node, and goes on to its branch for yes.
     fn branch(&mut self, ask: Ask, mark: Mark) -> Result<(), AllocError>
-        requires { self.old.opened + 2 < 2 ^ 64 }
         ensures ok { OnOk result (IsBranched ask mark self.old self.new) }
         ensures err { OnErr result (self.new ≡ self.old) }
     {
         self.nodes.reserve(1)?;
         self.path.push((ask, true))?;
         self.nodes.push_reserved(Node::Branched(ask, mark));
-        self.opened += 2;
         Ok(())
     }
 
@@ -179,12 +193,13 @@ impl Tree {
         ensures counted { IfOk result (IsCountedSplit (is_bare mark) nodes.old nodes.new) }
         ensures uncounted { OnErr result (nodes.new ≡ nodes.old) }
     {
-        let bare = matches!(mark, Mark::Bare);
+        let bare = is_bare(&mark);
         if nodes.limit() - self.opened < 2 {
             self.phase = Phase::Refused(bare);
             return Ok(false);
         }
         self.branch(ask, mark)?;
+        self.opened += 2;
         nodes.add_split(bare);
         Ok(true)
     }

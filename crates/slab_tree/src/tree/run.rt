@@ -1,24 +1,22 @@
 //! The search: depth first, yes before no, under limits that fall.
 
-ghost use Rattle.std.specs.Prelude.{◌≡◌, ◌≤◌, ◌<◌, ◌↔◌, IfOk, OnOk, OnErr, IsSome, IsTrue, [], true, false};
+ghost use Rattle.std.specs.Prelude.{◌≡◌, ◌≤◌, ◌<◌, IfOk, OnErr, [], true};
 ghost use Rattle.mill_model.specs.Decisions.{IsAskAmong};
-ghost use Rattle.mill_model.specs.Paths.{next_branch as branch_after};
 ghost use Rattle.mill_model.specs.Plain.{IsPlainlyRefuted};
 ghost use Rattle.mill_model.specs.Trees.{most_nodes};
 ghost use Rattle.slab_node.specs.Tallies.{AreNoLess, HasCause, HaveCauses};
 ghost use Rattle.slab_node.specs.Turns.{IsUndecided};
 ghost use Rattle.slab_tree.specs.Counts.{AreRaised, IsCountedSplit};
 ghost use Rattle.slab_tree.specs.Marking.{is_bare};
-ghost use Rattle.slab_tree.specs.Standing.{IsOpenPath};
 ghost use Rattle.slab_tree.specs.Searches.{HasBareEnd, IsReady, IsRunning, IsEnded, IsAnswer, IsSameQuestion, limits_of, bare_count};
-ghost use Rattle.slab_tree.specs.Stepping.{IsClosedAtOnce, IsStepped, IsWorkplace, IsClosed, IsSplitUnder};
+ghost use Rattle.slab_tree.specs.Stepping.{IsClosedAtOnce, IsStepped, IsWorkplace, IsSplitUnder};
 
 use super::{Ended, Tree};
 use crate::Nodes;
 use crate::bounding::bounded_turn;
 use crate::path::decide;
 use loss_table::LossTable;
-use mill_model::{Ask, Mark, Mill, Prices};
+use mill_model::{Ask, Mark, Mill};
 use slab_columns::Pool;
 use slab_decide::Decisions;
 use slab_node::{Tally, Turned};
@@ -142,21 +140,6 @@ impl Tree {
             Turned::Spread(_, ask) => self.go_down(ask, Mark::Plain, decisions, nodes),
             Turned::Bare(ask) => self.go_down(ask, Mark::Bare, decisions, nodes),
         }
-    }
-
-    // Closes the next node, and turns back to the next branch, whose decisions are then told.
-    fn turn_back(&mut self, prices: Prices, decisions: &mut Decisions) -> Result<bool, AllocError>
-        requires { IsOpenPath decisions.old.orders decisions.old.yard self.old.path }
-        ensures ok { OnOk result (IsClosed prices self.old self.new) }
-        ensures on { IfOk result (λ on. IsTrue on ↔ IsSome (branch_after self.old.path)) }
-        ensures err { OnErr result (self.new ≡ self.old) }
-        ensures told { IfOk result (λ on. on ≡ true → decisions.new ≡ record decisions.old { list = self.new.path }) }
-    {
-        let on = self.close(prices)?;
-        if on {
-            self.tell(decisions);
-        }
-        Ok(on)
     }
 
     // Splits the next node, and goes down to its branch for yes, whose decisions are then told.

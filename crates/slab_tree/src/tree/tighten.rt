@@ -1,16 +1,25 @@
 //! A finished tree whose splits are decided anew, for the limits that the search ended with.
 
-ghost use Rattle.std.specs.Prelude.{◌≡◌, ◌≤◌, IfOk};
+ghost use Rattle.std.specs.Prelude.{◌≡◌, ◌≤◌, ◌∷◌, [], IfOk, OnOk, OnErr, length};
+ghost use Rattle.mill_model.specs.Decisions.{IsAskAmong};
 ghost use Rattle.slab_node.specs.Tallies.{AreNoLess, HaveCauses};
-ghost use Rattle.slab_tree.specs.Searches.{IsFinished, bare_count};
+ghost use Rattle.slab_node.specs.Turns.{IsUndecided};
+ghost use Rattle.slab_tree.specs.Marking.{is_bare};
+ghost use Rattle.slab_tree.specs.Rewriting.{IsRewriting, MovesOn, HasRoom, IsTallied, AreKept, IsNoted};
+ghost use Rattle.slab_tree.specs.Searches.{HasLimitsBelow, IsFinished, bare_count};
+ghost use Rattle.slab_tree.specs.Stepping.{IsBranched, IsWorkplace};
 ghost use Rattle.slab_tree.specs.Tightening.{IsTightened, MayCountBare, AreBareCounted};
 
-use super::Tree;
-use crate::Nodes;
+use super::{Phase, Tree};
+use crate::path::decide;
+use crate::rest::Rest;
+use crate::showing::{is_bare, mark_of};
+use crate::{Node, Nodes};
 use loss_table::LossTable;
-use mill_model::Mill;
+use mill_model::{Ask, Mark, Mill};
 use slab_columns::Pool;
-use slab_node::Tally;
+use slab_decide::Decisions;
+use slab_node::{Tally, Turned, turn};
 use std::alloc::{AllocError, Global};
 
 impl Tree {
@@ -48,6 +57,159 @@ impl Tree {
         ensures counters { AreNoLess tally.old tally.new }
         ensures mill { pool.new.mill ≡ mill.now }
     {
-        Err(AllocError)
+        let _counted = nodes.opened();
+        let orders = mill.orders().len() as u16;
+        let yard = mill.yard().len() as u16;
+        let mut decisions = Decisions::new(alloc, orders, yard)?;
+        let (mut tree, mut rest) = self.begin_again(alloc);
+        while let Some(node) = rest.next() {
+            tree.rewrite(
+                alloc,
+                mill,
+                table,
+                node,
+                &mut rest,
+                &mut decisions,
+                pool,
+                nodes,
+                tally,
+            )?;
+        }
+        tree.recount();
+        Ok(tree)
+    }
+
+    // All nodes are decided.
+    fn recount(&mut self)
+        ensures { self.new ≡ record self.old { opened = length self.old.nodes } }
+    {
+        self.opened = self.nodes.len() as u64;
+    }
+
+    // The tree without nodes, to be written anew, and the nodes that it had.
+    fn begin_again(self, alloc: Global) -> (Tree, Rest)
+        ensures tree { result.0 ≡ record self { nodes = []; path = []; opened = 0; phase = Phase.Running } }
+        ensures rest { result.1 ≡ self.nodes }
+    {
+        let tree = Tree {
+            count: self.count,
+            opening: self.opening,
+            loss: self.loss,
+            best: self.best,
+            nodes: Vec::new(alloc),
+            path: Vec::new(alloc),
+            opened: 0,
+            phase: Phase::Running,
+        };
+        (tree, Rest::new(self.nodes))
+    }
+
+    // Does with one node of the old tree what there is to do: a leaf stays, an inner node is decided anew.
+    fn rewrite(
+        &mut self,
+        alloc: Global,
+        mill: &Mill,
+        table: &LossTable,
+        node: Node,
+        rest: &mut Rest,
+        decisions: &mut Decisions,
+        pool: &mut Pool,
+        nodes: &mut Nodes,
+        tally: &mut Tally,
+    ) -> Result<(), AllocError>
+        requires limits { HasLimitsBelow self.old }
+        requires walk { IsRewriting mill.now self.old (node ∷ rest.old) }
+        requires place { IsWorkplace mill.now table.now pool.old decisions.old self.old.path }
+        ensures moves { OnOk result (MovesOn mill.now self.old self.new node rest.old rest.new) }
+        ensures place { OnOk result (self.new.phase ≡ Phase.Running → IsWorkplace mill.now table.now pool.new decisions.new self.new.path) }
+        ensures tallied { OnOk result (HasRoom nodes.old (node ∷ rest.old) → IsTallied nodes.old nodes.new self.old.nodes self.new.nodes (node ∷ rest.old) rest.new) }
+        ensures room { OnOk result (HasRoom nodes.old (node ∷ rest.old) → HasRoom nodes.new rest.new) }
+        ensures causes { OnOk result (HaveCauses (bare_count self.old.nodes) tally.old (bare_count self.new.nodes) tally.new) }
+        ensures kept { AreKept nodes.old nodes.new }
+        ensures bare { HaveCauses nodes.old.bare tally.old nodes.new.bare tally.new }
+        ensures counters { AreNoLess tally.old tally.new }
+        ensures mill { pool.new.mill ≡ mill.now }
+    {
+        let _counted = nodes.opened();
+        match node {
+            Node::Closed(prices) => {
+                self.turn_back(prices, decisions)?;
+                Ok(())
+            }
+            Node::Branched(ask, mark) => self.decide_anew(
+                alloc, mill, table, ask, mark, rest, decisions, pool, nodes, tally,
+            ),
+        }
+    }
+
+    // Decides an inner node of the old tree anew, with one turn at the final limits.
+    fn decide_anew(
+        &mut self,
+        alloc: Global,
+        mill: &Mill,
+        table: &LossTable,
+        ask: Ask,
+        mark: Mark,
+        rest: &mut Rest,
+        decisions: &mut Decisions,
+        pool: &mut Pool,
+        nodes: &mut Nodes,
+        tally: &mut Tally,
+    ) -> Result<(), AllocError>
+        requires limits { HasLimitsBelow self.old }
+        requires walk { IsRewriting mill.now self.old (Node.Branched ask mark ∷ rest.old) }
+        requires place { IsWorkplace mill.now table.now pool.old decisions.old self.old.path }
+        ensures moves { OnOk result (MovesOn mill.now self.old self.new (Node.Branched ask mark) rest.old rest.new) }
+        ensures place { OnOk result (self.new.phase ≡ Phase.Running → IsWorkplace mill.now table.now pool.new decisions.new self.new.path) }
+        ensures tallied { OnOk result (HasRoom nodes.old (Node.Branched ask mark ∷ rest.old) → IsTallied nodes.old nodes.new self.old.nodes self.new.nodes (Node.Branched ask mark ∷ rest.old) rest.new) }
+        ensures room { OnOk result (HasRoom nodes.old (Node.Branched ask mark ∷ rest.old) → HasRoom nodes.new rest.new) }
+        ensures causes { OnOk result (HaveCauses (bare_count self.old.nodes) tally.old (bare_count self.new.nodes) tally.new) }
+        ensures kept { AreKept nodes.old nodes.new }
+        ensures bare { HaveCauses nodes.old.bare tally.old nodes.new.bare tally.new }
+        ensures counters { AreNoLess tally.old tally.new }
+        ensures mill { pool.new.mill ≡ mill.now }
+    {
+        let _counted = nodes.opened();
+        let limits = self.limits();
+        let counted = is_bare(&mark);
+        match turn(alloc, mill, table, decisions, limits, pool, tally)? {
+            Turned::Refuted(prices) => {
+                rest.pass_two();
+                self.turn_back(prices, decisions)?;
+                Ok(())
+            }
+            Turned::Spread(cover, _) => {
+                let shown = mark_of(alloc, pool, &cover, tally)?;
+                self.keep(ask, shown, counted, decisions, nodes)
+            }
+            Turned::Bare(_) => self.keep(ask, Mark::Bare, counted, decisions, nodes),
+            Turned::InBox(_) => unreachable!(),
+        }
+    }
+
+    // Keeps a split, and goes down to its branch for yes. One that became bare is counted.
+    fn keep(
+        &mut self,
+        ask: Ask,
+        mark: Mark,
+        counted: bool,
+        decisions: &mut Decisions,
+        nodes: &mut Nodes,
+    ) -> Result<(), AllocError>
+        requires asked { IsAskAmong decisions.old.orders decisions.old.yard ask }
+        requires undecided { IsUndecided decisions.old.list ask }
+        requires path { decisions.old.list ≡ self.old.path }
+        ensures ok { OnOk result (IsBranched ask mark self.old self.new) }
+        ensures told { OnOk result (decisions.new ≡ record decisions.old { list = self.new.path }) }
+        ensures noted { OnOk result (IsNoted (is_bare mark) counted nodes.old nodes.new) }
+        ensures unnoted { OnErr result (nodes.new ≡ nodes.old) }
+    {
+        let bare = is_bare(&mark);
+        self.branch(ask, mark)?;
+        decide(decisions, ask, true);
+        if bare && !counted {
+            nodes.note_bare();
+        }
+        Ok(())
     }
 }

@@ -1,7 +1,7 @@
 use Rattle.std.proofs.Common.{ap, sym, ◌∙◌}
 use Rattle.cert_view.specs.Numbers.{first_word, words_after}
 use Rattle.cert_view.specs.Reading.{count_of}
-use Rattle.cert_view.specs.Line.{form_of}
+use Rattle.cert_view.specs.Form.{form_of}
 use Rattle.cert_view.proofs.Lines.{line-no_numbers, line-no_form, line-range, line-form, AreCounted-from_count}
 use Rattle.cert_view.proofs.line.read_words.Goals as goal
 

@@ -13,8 +13,10 @@ new-requires c =
       size_count = subst (λ (xs : List ℕ). IsBetween 1 100 (length xs)) (sym c.in_ok-sizes.ensures.items) c.requires.sizes;
       sizes = subst (All (IsBetween 1 10000)) (sym c.in_ok-sizes.ensures.items) sizes;
       colours = c.requires.colours;
+      colour_limit = (omega arith, omega arith);
       order_count = omega (arith, c.in_ok-orders.ensures.len, c.in_ok-orders.orders.ok.0);
       weights = subst (All (λ (order : Order). IsBetween 1 10000 order.weight)) (sym c.in_ok-orders.ensures.items) weights;
       order_colours = subst (All (λ (order : Order). IsBetween 1 c.args.colours order.colour)) (sym c.in_ok-orders.ensures.items) colours;
-      yard = record { count = omega arith; sizes = All-nil (IsBetween 1 10000) };
+      yard = record { count = omega arith; sizes = All-nil (IsBetween 1 10000); bar_count = omega arith; bars = All-nil _ };
+      bars = All-nil _;
     }

@@ -1,0 +1,4 @@
+pub mod Certificates
+pub mod Lines
+pub mod Texts
+pub mod Laws

@@ -1,0 +1,16 @@
+//! The limits of a mill's numbers.
+
+/// A mill has at most so many sizes.
+pub const MOST_SIZES: u16 = 100;
+/// An order weighs at most this much, and no slab is of a greater size.
+pub const MOST_WEIGHT: u16 = 10000;
+/// A mill has at most so many colours.
+pub const MOST_COLOURS: u16 = 250;
+/// The greatest colour limit.
+pub const MOST_COLOUR_LIMIT: u16 = 3;
+/// A mill has at most so many orders.
+pub const MOST_ORDERS: u16 = 250;
+/// A yard has at most so many surplus slabs.
+pub const MOST_SLABS: u16 = 40;
+/// A yard has at most so many bars.
+pub const MOST_BARS: u16 = 10000;

@@ -1,0 +1,90 @@
+-- Where the walk through an old tree stands while a new one is written.
+use Rattle.std.specs.Prelude.{◌≡◌, ℕ, ◌+◌, ◌≤◌, ◌⊎◌, Bool, true, false, List, [], ◌∷◌, ◌++◌, length}
+use Rattle.mill_model.specs.declared.ask.Ask.{Ask}
+use Rattle.mill_model.specs.declared.limits.Limits.{Limits}
+use Rattle.mill_model.specs.declared.mark.Mark.{Mark}
+use Rattle.mill_model.specs.Mill.{Mill}
+use Rattle.mill_model.specs.Prices.{Prices}
+use Rattle.mill_model.specs.Decisions.{Decision}
+use Rattle.mill_model.specs.Trees.{Tree}
+use Rattle.slab_counter.specs.Counter.{last_count}
+use Rattle.slab_tree.specs.declared.node.Node.{Node}
+use Rattle.slab_tree.specs.declared.tree.Phase.TheVariants.{Running, Done}
+use Rattle.slab_tree.specs.Counts.{Counts, noted_bare}
+use Rattle.slab_tree.specs.Marking.{MarkRule, HasCoverUnlessBare, ShowsCoverUnlessBare}
+use Rattle.slab_tree.specs.Searches.{Search, limits_of, opening_of, bare_count}
+use Rattle.slab_tree.specs.Standing.{IsDone, IsWhole, Stands, nodes_of}
+use Rattle.slab_tree.specs.Tightening.{covered_count}
+
+-- the branches for no that wait on the path come next, one after another
+pub record BranchesComeNext (m : Mill) (Rule : MarkRule) (limits : Limits) (ask : Ask) (path : List Decision) (Later : List Node → Type 0) (nodes : List Node) : Type 0 where
+  pub if_no : Tree Mark Prices
+  pub more : List Node
+  pub done : IsDone m Rule limits if_no ((ask, false) ∷ path)
+  pub nodes_are : nodes ≡ nodes_of if_no ++ more
+  pub later : Later more
+
+abbrev pub AreToCome : Mill → MarkRule → Limits → List Decision → List Node → Type 0
+AreToCome m Rule limits [] nodes = nodes ≡ []
+AreToCome m Rule limits ((ask, true) ∷ path) nodes = BranchesComeNext m Rule limits ask path (AreToCome m Rule limits path) nodes
+AreToCome m Rule limits ((ask, false) ∷ path) nodes = AreToCome m Rule limits path nodes
+
+-- the nodes that are left begin with the finished tree at the path, and go on with the waiting branches
+pub record IsAtTree (m : Mill) (Rule : MarkRule) (limits : Limits) (path : List Decision) (nodes : List Node) : Type 0 where
+  pub tree : Tree Mark Prices
+  pub more : List Node
+  pub done : IsDone m Rule limits tree path
+  pub nodes_are : nodes ≡ nodes_of tree ++ more
+  pub to_come : AreToCome m Rule limits path more
+
+-- the next node of the new tree is the root of the next tree of the old one
+pub record IsRewriting (m : Mill) (t : Search) (rest : List Node) : Type 0 where
+  pub running : t.phase ≡ Running
+  pub stands : Stands m (ShowsCoverUnlessBare m (limits_of t)) (limits_of t) t.path t.nodes
+  pub at_tree : IsAtTree m (HasCoverUnlessBare m (opening_of t)) (limits_of t) t.path rest
+
+-- the new tree is whole, and nothing of the old one is left
+pub record IsRewritten (m : Mill) (t : Search) (rest : List Node) : Type 0 where
+  pub finished : t.phase ≡ Done
+  pub whole : IsWhole m (ShowsCoverUnlessBare m (limits_of t)) (limits_of t) t.nodes
+  pub nothing_left : rest ≡ []
+
+abbrev pub IsWalk : Mill → Search → List Node → Type 0
+IsWalk m t rest = IsRewriting m t rest ⊎ IsRewritten m t rest
+
+-- the question stays
+pub record IsSameTree (old new : Search) : Type 0 where
+  pub count : new.count ≡ old.count
+  pub opening : new.opening ≡ old.opening
+  pub loss : new.loss ≡ old.loss
+  pub best : new.best ≡ old.best
+
+-- a step of the walk: the node that was read is done with
+pub record MovesOn (m : Mill) (old new : Search) (node : Node) (before after : List Node) : Type 0 where
+  pub same : IsSameTree old new
+  pub walk : IsWalk m new after
+  pub shorter : length after ≤ length before
+  pub fewer : length new.nodes + length after ≤ length old.nodes + length (node ∷ before)
+
+-- ---- the counts
+
+-- each split that is left, and that isn't counted as bare, may still be
+abbrev pub HasRoom : Counts → List Node → Type 0
+HasRoom n rest = (last_count ≤ n.opened) ⊎ (n.bare + covered_count rest ≤ n.opened)
+
+-- What was counted while nodes were read from `before` to `after`, and written from `first` to `last`.
+pub record IsTallied (old new : Counts) (first last before after : List Node) : Type 0 where
+  pub no_more : new.bare + bare_count first ≤ old.bare + bare_count last
+  pub counted : (bare_count last + bare_count after + old.bare ≤ bare_count first + bare_count before + new.bare) ⊎ (last_count ≤ new.bare)
+
+-- what the counts do at each step
+pub record AreKept (old new : Counts) : Type 0 where
+  pub limit : new.limit ≡ old.limit
+  pub opened : new.opened ≡ old.opened
+  pub rises : old.bare ≤ new.bare
+
+-- a split that became bare is counted where there is room
+abbrev pub IsNoted : Bool → Bool → Counts → Counts → Type 0
+IsNoted true false old new = new ≡ noted_bare old
+IsNoted true true old new = new ≡ old
+IsNoted false counted old new = new ≡ old
