@@ -18,7 +18,7 @@ use Rattle.slab_sweep.specs.Made.{IsFound, IsNothing, IsCut, nodes_of, bares_of}
 use Rattle.slab_sweep.specs.Counting.{most_questions, OpensFew, OpensOneTree, CountsNodes, CountsBares}
 use Rattle.slab_sweep.specs.Questions.{AreCounted}
 use Rattle.slab_sweep.specs.Placing.{placed}
-use Rattle.slab_sweep.specs.Swept.{IsSwept, IsAnswer, IsToldPlainly, added_to, made_nodes}
+use Rattle.slab_sweep.specs.Swept.{ended_with, IsSwept, IsAnswer, IsToldPlainly, added_to, made_nodes}
 use Rattle.slab_sweep.specs.Progress.{IsUnderWay, HasRoomFor, StandsPlainly, questions_after, questions_left}
 use Rattle.slab_sweep.proofs.Heads.{few_last, few_new, found_falls, good_placed, last_placed}
 use Rattle.slab_sweep.proofs.Kept.{goes_on_at_first, none_before, placed_on, IsPlacedOn}
@@ -132,14 +132,17 @@ module _ {told : Telling} {m : Mill} {head points : List Point} {old now new : C
     more_nodes (length steps.steps) (nodes_of (added_to head points) + length steps.steps) (omega arith) counted.opened,
   )
 
-  pub ended : (steps : MarkedSteps) (s : Swept) → IsNothing m (opening_after told m (last_sums None points)) steps → AreCounted (length steps.steps) (bare_marks steps.marks) now new half is
-      → (points ≡ [] → s ≡ NoPlan steps) → (0 < length points → s ≡ Complete (record { points = points; last = steps })) → IsSwept told m head old new was is s × CountsNodes (made_nodes head s) old new
+  pub ended : (steps : MarkedSteps) → IsNothing m (opening_after told m (last_sums None points)) steps → AreCounted (length steps.steps) (bare_marks steps.marks) now new half is
+      → IsSwept told m head old new was is (ended_with points steps) × CountsNodes (made_nodes head (ended_with points steps)) old new
   unfolding Answers
-  ended steps s nothing counted none some = by points refl
+  ended steps nothing counted = by points refl
     where
-      by : (ps : List Point) → points ≡ ps → Answers s
-      by [] e = subst Answers (sym (none e)) (none_left steps nothing counted e)
-      by (p ∷ ps) e = subst Answers (sym (some (omega (arith, ap length e)))) (whole steps nothing counted (omega (arith, ap length e)))
+      by : (ps : List Point) → points ≡ ps → Answers (ended_with points steps)
+      by [] e = subst (λ (qs : List Point). Answers (ended_with qs steps)) (sym e) (none_left steps nothing counted e)
+      by (p ∷ ps) e = subst Answers (whole_is p ps e) (whole steps nothing counted (omega (arith, ap length e)))
+        where
+          whole_is : (p : Point) (ps : List Point) → points ≡ p ∷ ps → Complete (record { points = points; last = steps }) ≡ ended_with points steps
+          whole_is p ps e = subst (λ (qs : List Point). Complete (record { points = qs; last = steps }) ≡ ended_with qs steps) (sym e) refl
 
   -- ---- a question was cut off
 
@@ -149,10 +152,7 @@ module _ {told : Telling} {m : Mill} {head points : List Point} {old now new : C
     more_nodes (length rest) (nodes_of (added_to head points) + length rest) (omega arith) counted.opened,
   )
 
--- what is finished is an answer
-pub finished_answers : (points : List Point) (steps : MarkedSteps) (s : Swept) → (points ≡ [] → s ≡ NoPlan steps) → (0 < length points → s ≡ Complete (record { points = points; last = steps })) → IsAnswer s
-finished_answers points steps s none some = by points refl
-  where
-    by : (ps : List Point) → points ≡ ps → IsAnswer s
-    by [] e = subst (λ (x : Swept). IsAnswer x) (sym (none e)) tt
-    by (p ∷ ps) e = subst (λ (x : Swept). IsAnswer x) (sym (some (omega (arith, ap length e)))) tt
+-- what has ended isn't cut off
+pub ended_answers : (points : List Point) (steps : MarkedSteps) → IsAnswer (ended_with points steps)
+ended_answers [] steps = tt
+ended_answers (point ∷ points) steps = tt

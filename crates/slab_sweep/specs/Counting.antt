@@ -31,6 +31,10 @@ pub record OpensOneTree (m : Mill) (old new : Counts) : Type 0 where
 abbrev pub CountsNodes : ℕ → Counts → Counts → Type 0
 CountsNodes made old new = (old.opened + made ≤ new.opened) ⊎ (last_count ≤ new.opened)
 
+-- bare marks are at most those before and those counted since, unless the count stands at its last value
+abbrev pub AreNoMoreBare : ℕ → ℕ → Counts → Counts → Type 0
+AreNoMoreBare after before old new = (after + old.bare ≤ before + new.bare) ⊎ (last_count ≤ new.bare)
+
 -- so many bare splits were counted, unless the count stands at its last value, and they have causes
 pub record CountsBares (made : ℕ) (old new : Counts) (before after : Tally) : Type 0 where
   pub counted : (old.bare + made ≤ new.bare) ⊎ (last_count ≤ new.bare)

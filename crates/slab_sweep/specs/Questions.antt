@@ -1,5 +1,5 @@
 -- What one question of a sweep answers.
-use Rattle.std.specs.Prelude.{ℕ, ℤ, length, Option}
+use Rattle.std.specs.Prelude.{ℕ, ℤ, ◌+◌, ◌≤◌, length, Option}
 use Rattle.mill_model.specs.declared.limits.Limits.{Limits}
 use Rattle.mill_model.specs.Mill.{Mill}
 use Rattle.mill_model.specs.Plans.{Plan}
@@ -33,7 +33,12 @@ IsAnswered m count best old new was is (Cut rest) =
     (bares : ℕ) × IsCut m (opening_of m count best) old.limit bares was is rest × AreCounted (length rest) bares old new was is
 
 -- it isn't cut off
-abbrev pub IsClosedAnswer : Answer → Type 0
-IsClosedAnswer (Found point) = Unit {0}
-IsClosedAnswer (Nothing s) = Unit {0}
-IsClosedAnswer (Cut rest) = ⊥
+abbrev pub IsClosed : Answer → Type 0
+IsClosed (Found point) = Unit {0}
+IsClosed (Nothing s) = Unit {0}
+IsClosed (Cut rest) = ⊥
+
+-- one node at most was opened, and the question isn't cut off
+pub record IsAnsweredAtOnce (old new : Counts) (answer : Answer) : Type 0 where
+  pub closed : IsClosed answer
+  pub one : new.opened ≤ old.opened + 1

@@ -1,5 +1,5 @@
 -- What a sweep answers.
-use Rattle.std.specs.Prelude.{◌≡◌, ℕ, ℤ, ◌+◌, ◌<◌, List, [], length, drop, Option, Some, None}
+use Rattle.std.specs.Prelude.{◌≡◌, ℕ, ℤ, ◌+◌, ◌<◌, ◌≤◌, List, [], ◌∷◌, length, drop, Option, Some, None}
 use Rattle.mill_model.specs.declared.ask.Ask.{Ask}
 use Rattle.mill_model.specs.Mill.{Mill}
 use Rattle.mill_model.specs.Plans.{Plan, sums_of}
@@ -59,11 +59,21 @@ IsSwept told m before old new was is (NoPlan last) =
 IsSwept told m before old new was is (Budget points rest) =
     (bares : ℕ) × IsCutOff told m old.limit bares was is before points rest × CountsBares (made_bares before (Budget points rest) + bares) old new was is
 
+-- what the points and the last tree are together
+abbrev pub ended_with : List Point → MarkedSteps → Swept
+ended_with [] last = NoPlan last
+ended_with (point ∷ points) last = Complete (record { points = point ∷ points; last = last })
+
 -- it isn't Budget
 abbrev pub IsAnswer : Swept → Type 0
 IsAnswer (Complete front) = Unit {0}
 IsAnswer (NoPlan last) = Unit {0}
 IsAnswer (Budget points rest) = ⊥
+
+-- two nodes at most were opened, and the answer isn't Budget
+pub record IsSweptAtOnce (old new : Counts) (s : Swept) : Type 0 where
+  pub answer : IsAnswer s
+  pub two : new.opened ≤ old.opened + 2
 
 -- for the mill without a count limit a plan without loss is told, and fewer new slabs than it has are plainly refuted
 pub record IsToldPlainly (told : Telling) (m : Mill) : Type 0 where

@@ -1,7 +1,6 @@
 //! One question: which plan within a count limit has the least loss, with the tree that shows it.
 
-ghost use Rattle.std.specs.Prelude.{◌≡◌, ◌≤◌, ◌+◌, ◌⊎◌, IfOk, IfSome, length};
-ghost use Rattle.slab_counter.specs.Counter.{last_count};
+ghost use Rattle.std.specs.Prelude.{◌≡◌, ◌≤◌, IfOk, IfSome, length};
 ghost use Rattle.mill_model.specs.Limits.{number_of};
 ghost use Rattle.mill_model.specs.Plain.{IsPlainlyRefuted};
 ghost use Rattle.mill_model.specs.Plans.{IsLegal, sums_of};
@@ -11,9 +10,9 @@ ghost use Rattle.slab_node.specs.Tallies.{AreNoLess, HaveCauses};
 ghost use Rattle.slab_tree.specs.Marking.{bare_marks};
 ghost use Rattle.slab_tree.specs.Searches.{IsFinished, bare_count, limits_of, opening_of as opening_of_tree};
 ghost use Rattle.slab_tree.specs.Tightening.{MayCountBare};
-ghost use Rattle.slab_sweep.specs.Counting.{OpensOneTree};
+ghost use Rattle.slab_sweep.specs.Counting.{OpensOneTree, AreNoMoreBare};
 ghost use Rattle.slab_sweep.specs.Made.{IsMade};
-ghost use Rattle.slab_sweep.specs.Questions.{IsAnswered, IsClosedAnswer, opening_of};
+ghost use Rattle.slab_sweep.specs.Questions.{IsAnswered, IsAnsweredAtOnce, opening_of};
 
 use loss_table::LossTable;
 use mill_model::{Mill, OpenTree, Plan, Proved, Steps};
@@ -48,9 +47,10 @@ pub(crate) fn ask(
     requires best { IfSome best (IsStart mill.now count) }
     requires sizes { table.now ≡ mill.now.sizes }
     requires pool { pool.old.mill ≡ mill.now }
-    ensures answer { IfOk result (IsAnswered mill.now count best nodes.old nodes.new tally.old tally.new) }
-    ensures plain { IsPlainlyRefuted mill.now (opening_of mill.now count best) → IfOk result IsClosedAnswer }
-    ensures one { IsPlainlyRefuted mill.now (opening_of mill.now count best) → IfOk result (λ _. nodes.new.opened ≤ nodes.old.opened + 1) }
+    ensures answer { IfOk result
+        (IsAnswered mill.now count best nodes.old nodes.new tally.old tally.new) }
+    ensures plain { IsPlainlyRefuted mill.now (opening_of mill.now count best)
+        → IfOk result (IsAnsweredAtOnce nodes.old nodes.new) }
     ensures opens { OpensOneTree mill.now nodes.old nodes.new }
     ensures causes { HaveCauses nodes.old.bare tally.old nodes.new.bare tally.new }
     ensures counters { AreNoLess tally.old tally.new }
@@ -89,7 +89,8 @@ fn tightened(
     ensures made { IfOk result (IsMade mill.now (opening_of_tree tree) (limits_of tree)) }
     ensures fewer { IfOk result (λ s. length s.steps ≤ length tree.nodes) }
     ensures causes { IfOk result (λ s. HaveCauses 0 tally.old (bare_marks s.marks) tally.new) }
-    ensures counted { IfOk result (λ s. (bare_marks s.marks + nodes.old.bare ≤ bare_count tree.nodes + nodes.new.bare) ⊎ (last_count ≤ nodes.new.bare)) }
+    ensures counted { IfOk result
+        (λ s. AreNoMoreBare (bare_marks s.marks) (bare_count tree.nodes) nodes.old nodes.new) }
     ensures limit { nodes.new.limit ≡ nodes.old.limit }
     ensures opened { nodes.new.opened ≡ nodes.old.opened }
     ensures rises { nodes.old.bare ≤ nodes.new.bare }

@@ -1,10 +1,10 @@
 //! The sweep: a question for each count limit, until one has no plan.
 
-ghost use Rattle.std.specs.Prelude.{◌≡◌, ◌<◌, ◌≤◌, ◌+◌, [], IfOk, length};
+ghost use Rattle.std.specs.Prelude.{◌≡◌, [], IfOk};
 ghost use Rattle.mill_model.specs.Fronts.{IsGoodHead};
 ghost use Rattle.slab_node.specs.Tallies.{AreNoLess, HaveCauses};
 ghost use Rattle.slab_sweep.specs.Counting.{OpensFew, CountsNodes};
-ghost use Rattle.slab_sweep.specs.Swept.{IsSwept, IsAnswer, IsToldPlainly, made_nodes};
+ghost use Rattle.slab_sweep.specs.Swept.{IsSwept, IsSweptAtOnce, IsToldPlainly, made_nodes, ended_with};
 
 use crate::points::{count_limit, place};
 use crate::question::{Answer, ask};
@@ -32,12 +32,13 @@ pub fn sweep<T: Starter>(
     requires head { IsGoodHead mill.now head }
 
     // What is answered, and what was counted for it.
-    ensures swept { IfOk result (IsSwept (T.told starter.old) mill.now head nodes.old nodes.new tally.old tally.new) }
+    ensures swept { IfOk result
+        (IsSwept (T.told starter.old) mill.now head nodes.old nodes.new tally.old tally.new) }
     ensures made { IfOk result (λ s. CountsNodes (made_nodes head s) nodes.old nodes.new) }
 
     // A plan without loss that is told, with a count below which all is plainly refuted, ends it at the second node.
-    ensures plain { IsToldPlainly (T.told starter.old) mill.now → head ≡ [] → IfOk result IsAnswer }
-    ensures two { IsToldPlainly (T.told starter.old) mill.now → head ≡ [] → IfOk result (λ _. nodes.new.opened ≤ nodes.old.opened + 2) }
+    ensures plain { IsToldPlainly (T.told starter.old) mill.now → head ≡ []
+        → IfOk result (IsSweptAtOnce nodes.old nodes.new) }
 
     // What the counts do, also where memory is wanting.
     ensures opens { OpensFew mill.now nodes.old nodes.new }
@@ -62,8 +63,7 @@ pub fn sweep<T: Starter>(
 
 // What the points and the last tree are together.
 fn finished(points: Vec<Proved>, steps: Steps) -> Swept
-    ensures none { points.items ≡ [] → result ≡ Swept.NoPlan steps }
-    ensures some { 0 < length points.items → result ≡ Swept.Complete (record { points = points.items; last = steps }) }
+    ensures { result ≡ ended_with points.items steps }
 {
     if points.is_empty() {
         return Swept::NoPlan(steps);

@@ -8,13 +8,14 @@ use Rattle.slab_sweep.specs.Openings.{Telling, count_after, opening_after}
 use Rattle.slab_sweep.specs.Made.{IsFound, IsNothing, IsCut}
 use Rattle.slab_sweep.specs.Counting.{CountsNodes}
 use Rattle.slab_sweep.specs.Progress.{IsUnderWay, questions_left}
-use Rattle.slab_sweep.specs.Swept.{IsSwept, made_nodes}
+use Rattle.slab_sweep.specs.declared.swept.Swept.{Swept}
+use Rattle.slab_sweep.specs.Swept.{IsSwept, IsAnswer, made_nodes}
 use Rattle.slab_sweep.specs.declared.swept.Swept.TheVariants.{Budget}
 use Rattle.slab_tree.specs.Marking.{bare_marks}
-use Rattle.slab_sweep.specs.Questions.{IsAnswered, IsClosedAnswer, AreCounted, opening_of}
+use Rattle.slab_sweep.specs.Questions.{IsAnswered, IsClosed, AreCounted, opening_of}
 use Rattle.slab_sweep.proofs.Openings.{found_opens, nothing_opens, cut_opens}
 use Rattle.slab_sweep.proofs.Plainly.{plainly_opens, plainly_placed, plainly_one}
-use Rattle.slab_sweep.proofs.Progress.{at_first, few_so_far, few_after, have_causes, are_no_less, goes_on, ended, cut_off, finished_answers, fewer_left}
+use Rattle.slab_sweep.proofs.Progress.{at_first, few_so_far, few_after, have_causes, are_no_less, goes_on, ended, cut_off, ended_answers, fewer_left}
 use Rattle.slab_sweep.proofs.sweeping.sweep.Goals as goal
 
 pub questions-init : goal.questions-init
@@ -67,7 +68,7 @@ questions-preserved g c =
     let answer : IsFound c.args.mill.now (opening_of c.args.mill.now c.count_limit-count.result c.in_ok-best.best) c.in-Found.point × KeepsBest c.args.mill.now c.count_limit-count.result c.in_ok-best.best c.in-Found.point.plan × AreCounted (length c.in-Found.point.steps.steps) (bare_marks c.in-Found.point.steps.marks) c.questions.nodes c.ask.new.nodes c.questions.tally c.ask.new.tally = subst (λ (a : Answer). IsAnswered c.args.mill.now c.count_limit-count.result c.in_ok-best.best c.questions.nodes c.ask.new.nodes c.questions.tally c.ask.new.tally a) c.in-Found.is c.in_ok-point.ensures.answer in (
       subst (λ (ps : List Point). IsUnderWay (g.T.Starter.told c.args.starter.now) c.args.mill.now c.args.head ps c.args.nodes.now c.ask.new.nodes c.args.tally.now c.ask.new.tally) (sym c.in_ok-place-in-Found.ensures)
           (goes_on c.questions.invariant.0 c.ask.ensures.opens c.ask.ensures.counters c.in-Found.point c.ask.ensures.causes (found_opens (g.T.Starter.told c.args.starter.now) c.args.mill.now (last_sums None c.questions.points.items) c.count_limit-count.result c.in_ok-best.best count as_told c.in-Found.point answer.0) answer.2
-          (λ t empty. plainly_placed (g.T.Starter.told c.args.starter.now) c.args.mill.now t c.count_limit-count.result c.in_ok-best.best as_told c.args.nodes.now c.questions.nodes c.questions.points.items c.in-Found.point c.ask.new.nodes c.orders-orders.ensures.limits c.in_ok-best.ensures.legal (c.questions.invariant.0.plainly t empty) count answer.0 answer.1 (c.in_ok-point.ensures.one (plainly_opens (g.T.Starter.told c.args.starter.now) c.args.mill.now t c.count_limit-count.result c.in_ok-best.best as_told c.args.nodes.now c.questions.nodes c.questions.points.items (c.questions.invariant.0.plainly t empty) count)))),
+          (λ t empty. plainly_placed (g.T.Starter.told c.args.starter.now) c.args.mill.now t c.count_limit-count.result c.in_ok-best.best as_told c.args.nodes.now c.questions.nodes c.questions.points.items c.in-Found.point c.ask.new.nodes c.orders-orders.ensures.limits c.in_ok-best.ensures.legal (c.questions.invariant.0.plainly t empty) count answer.0 answer.1 ((c.in_ok-point.ensures.plain (plainly_opens (g.T.Starter.told c.args.starter.now) c.args.mill.now t c.count_limit-count.result c.in_ok-best.best as_told c.args.nodes.now c.questions.nodes c.questions.points.items (c.questions.invariant.0.plainly t empty) count)).one))),
       c.ask.ensures.pool,
       c.start.ensures.tells ∙ c.questions.invariant.2,
     )
@@ -83,29 +84,6 @@ returns-in_err-place-in-Found-clause-counters g c = are_no_less c.questions.inva
 
 pub returns-in_err-place-in-Found-clause-tells : goal.returns-in_err-place-in-Found-clause-tells
 returns-in_err-place-in-Found-clause-tells g c = c.start.ensures.tells ∙ c.questions.invariant.2
-
-pub returns-in-Nothing-clause-swept : goal.returns-in-Nothing-clause-swept
-returns-in-Nothing-clause-swept g c =
-    let count : c.count_limit-count.result ≡ count_after (last_sums None c.questions.points.items) = c.count_limit-count.ensures.value ∙ ap (λ (ps : List Point). count_after (last_sums None ps)) c.deref.ensures.value in
-    let as_told : IsAsTold (g.T.Starter.told c.args.starter.now) c.args.mill.now c.count_limit-count.result c.in_ok-best.best = subst (λ (t : Telling). IsAsTold t c.args.mill.now c.count_limit-count.result c.in_ok-best.best) c.questions.invariant.2 c.in_ok-best.ensures.as_told in
-    let answer : IsNothing c.args.mill.now (opening_of c.args.mill.now c.count_limit-count.result c.in_ok-best.best) c.in-Nothing.steps × AreCounted (length c.in-Nothing.steps.steps) (bare_marks c.in-Nothing.steps.marks) c.questions.nodes c.ask.new.nodes c.questions.tally c.ask.new.tally = subst (λ (a : Answer). IsAnswered c.args.mill.now c.count_limit-count.result c.in_ok-best.best c.questions.nodes c.ask.new.nodes c.questions.tally c.ask.new.tally a) c.in-Nothing.is c.in_ok-point.ensures.answer in
-    (ended c.questions.invariant.0 c.ask.ensures.opens c.ask.ensures.counters c.in-Nothing.steps c.finished.result (nothing_opens (g.T.Starter.told c.args.starter.now) c.args.mill.now (last_sums None c.questions.points.items) c.count_limit-count.result c.in_ok-best.best count as_told c.in-Nothing.steps answer.0) answer.1 c.finished.ensures.none c.finished.ensures.some).0
-
-pub returns-in-Nothing-clause-made : goal.returns-in-Nothing-clause-made
-returns-in-Nothing-clause-made g c =
-    let count : c.count_limit-count.result ≡ count_after (last_sums None c.questions.points.items) = c.count_limit-count.ensures.value ∙ ap (λ (ps : List Point). count_after (last_sums None ps)) c.deref.ensures.value in
-    let as_told : IsAsTold (g.T.Starter.told c.args.starter.now) c.args.mill.now c.count_limit-count.result c.in_ok-best.best = subst (λ (t : Telling). IsAsTold t c.args.mill.now c.count_limit-count.result c.in_ok-best.best) c.questions.invariant.2 c.in_ok-best.ensures.as_told in
-    let answer : IsNothing c.args.mill.now (opening_of c.args.mill.now c.count_limit-count.result c.in_ok-best.best) c.in-Nothing.steps × AreCounted (length c.in-Nothing.steps.steps) (bare_marks c.in-Nothing.steps.marks) c.questions.nodes c.ask.new.nodes c.questions.tally c.ask.new.tally = subst (λ (a : Answer). IsAnswered c.args.mill.now c.count_limit-count.result c.in_ok-best.best c.questions.nodes c.ask.new.nodes c.questions.tally c.ask.new.tally a) c.in-Nothing.is c.in_ok-point.ensures.answer in
-    (ended c.questions.invariant.0 c.ask.ensures.opens c.ask.ensures.counters c.in-Nothing.steps c.finished.result (nothing_opens (g.T.Starter.told c.args.starter.now) c.args.mill.now (last_sums None c.questions.points.items) c.count_limit-count.result c.in_ok-best.best count as_told c.in-Nothing.steps answer.0) answer.1 c.finished.ensures.none c.finished.ensures.some).1
-
-pub returns-in-Nothing-clause-plain : goal.returns-in-Nothing-clause-plain
-returns-in-Nothing-clause-plain g c = λ t empty. finished_answers c.questions.points.items c.in-Nothing.steps c.finished.result c.finished.ensures.none c.finished.ensures.some
-
-pub returns-in-Nothing-clause-two : goal.returns-in-Nothing-clause-two
-returns-in-Nothing-clause-two g c =
-    let count : c.count_limit-count.result ≡ count_after (last_sums None c.questions.points.items) = c.count_limit-count.ensures.value ∙ ap (λ (ps : List Point). count_after (last_sums None ps)) c.deref.ensures.value in
-    let as_told : IsAsTold (g.T.Starter.told c.args.starter.now) c.args.mill.now c.count_limit-count.result c.in_ok-best.best = subst (λ (t : Telling). IsAsTold t c.args.mill.now c.count_limit-count.result c.in_ok-best.best) c.questions.invariant.2 c.in_ok-best.ensures.as_told in
-    λ t empty. omega (arith, c.in_ok-point.ensures.one (plainly_opens (g.T.Starter.told c.args.starter.now) c.args.mill.now t c.count_limit-count.result c.in_ok-best.best as_told c.args.nodes.now c.questions.nodes c.questions.points.items (c.questions.invariant.0.plainly t empty) count), plainly_one c.args.mill.now t.plan c.questions.points.items c.args.nodes.now c.questions.nodes (c.questions.invariant.0.plainly t empty))
 
 pub returns-in-Nothing-clause-opens : goal.returns-in-Nothing-clause-opens
 returns-in-Nothing-clause-opens g c = few_after c.questions.invariant.0 c.ask.ensures.opens
@@ -135,18 +113,6 @@ returns-in-Cut-clause-made g c =
     let cut : IsCut c.args.mill.now (opening_after (g.T.Starter.told c.args.starter.now) c.args.mill.now (last_sums None c.questions.points.items)) c.args.nodes.now.limit answer.0 c.args.tally.now c.ask.new.tally c.in-Cut.open_tree = subst (λ (n : ℕ). IsCut c.args.mill.now (opening_after (g.T.Starter.told c.args.starter.now) c.args.mill.now (last_sums None c.questions.points.items)) n answer.0 c.args.tally.now c.ask.new.tally c.in-Cut.open_tree) c.questions.invariant.0.room.limit (cut_opens (g.T.Starter.told c.args.starter.now) c.args.mill.now (last_sums None c.questions.points.items) c.count_limit-count.result c.in_ok-best.best count as_told c.questions.nodes.limit answer.0 c.args.tally.now c.questions.tally c.ask.new.tally c.in-Cut.open_tree c.questions.invariant.0.counters answer.1) in
     subst (λ (ps : List Point). CountsNodes (made_nodes c.args.head (Budget ps c.in-Cut.open_tree)) c.args.nodes.now c.ask.new.nodes) (sym c.new-in-Cut.ensures) ((cut_off c.questions.invariant.0 c.ask.ensures.opens c.ask.ensures.counters c.in-Cut.open_tree answer.0 cut answer.2).1)
 
-pub returns-in-Cut-clause-plain : goal.returns-in-Cut-clause-plain
-returns-in-Cut-clause-plain g c =
-    let count : c.count_limit-count.result ≡ count_after (last_sums None c.questions.points.items) = c.count_limit-count.ensures.value ∙ ap (λ (ps : List Point). count_after (last_sums None ps)) c.deref.ensures.value in
-    let as_told : IsAsTold (g.T.Starter.told c.args.starter.now) c.args.mill.now c.count_limit-count.result c.in_ok-best.best = subst (λ (t : Telling). IsAsTold t c.args.mill.now c.count_limit-count.result c.in_ok-best.best) c.questions.invariant.2 c.in_ok-best.ensures.as_told in
-    λ t empty. subst (λ (a : Answer). IsClosedAnswer a) c.in-Cut.is (c.in_ok-point.ensures.plain (plainly_opens (g.T.Starter.told c.args.starter.now) c.args.mill.now t c.count_limit-count.result c.in_ok-best.best as_told c.args.nodes.now c.questions.nodes c.questions.points.items (c.questions.invariant.0.plainly t empty) count))
-
-pub returns-in-Cut-clause-two : goal.returns-in-Cut-clause-two
-returns-in-Cut-clause-two g c =
-    let count : c.count_limit-count.result ≡ count_after (last_sums None c.questions.points.items) = c.count_limit-count.ensures.value ∙ ap (λ (ps : List Point). count_after (last_sums None ps)) c.deref.ensures.value in
-    let as_told : IsAsTold (g.T.Starter.told c.args.starter.now) c.args.mill.now c.count_limit-count.result c.in_ok-best.best = subst (λ (t : Telling). IsAsTold t c.args.mill.now c.count_limit-count.result c.in_ok-best.best) c.questions.invariant.2 c.in_ok-best.ensures.as_told in
-    λ t empty. omega (arith, c.in_ok-point.ensures.one (plainly_opens (g.T.Starter.told c.args.starter.now) c.args.mill.now t c.count_limit-count.result c.in_ok-best.best as_told c.args.nodes.now c.questions.nodes c.questions.points.items (c.questions.invariant.0.plainly t empty) count), plainly_one c.args.mill.now t.plan c.questions.points.items c.args.nodes.now c.questions.nodes (c.questions.invariant.0.plainly t empty))
-
 pub returns-in-Cut-clause-opens : goal.returns-in-Cut-clause-opens
 returns-in-Cut-clause-opens g c = few_after c.questions.invariant.0 c.ask.ensures.opens
 
@@ -158,3 +124,37 @@ returns-in-Cut-clause-counters g c = are_no_less c.questions.invariant.0 c.ask.e
 
 pub returns-in-Cut-clause-tells : goal.returns-in-Cut-clause-tells
 returns-in-Cut-clause-tells g c = c.start.ensures.tells ∙ c.questions.invariant.2
+
+pub returns-in-Nothing-clause-swept : goal.returns-in-Nothing-clause-swept
+returns-in-Nothing-clause-swept g c =
+    let count : c.count_limit-count.result ≡ count_after (last_sums None c.questions.points.items) = c.count_limit-count.ensures.value ∙ ap (λ (ps : List Point). count_after (last_sums None ps)) c.deref.ensures.value in
+    let as_told : IsAsTold (g.T.Starter.told c.args.starter.now) c.args.mill.now c.count_limit-count.result c.in_ok-best.best = subst (λ (t : Telling). IsAsTold t c.args.mill.now c.count_limit-count.result c.in_ok-best.best) c.questions.invariant.2 c.in_ok-best.ensures.as_told in
+    let answer : IsNothing c.args.mill.now (opening_of c.args.mill.now c.count_limit-count.result c.in_ok-best.best) c.in-Nothing.steps × AreCounted (length c.in-Nothing.steps.steps) (bare_marks c.in-Nothing.steps.marks) c.questions.nodes c.ask.new.nodes c.questions.tally c.ask.new.tally = subst (λ (a : Answer). IsAnswered c.args.mill.now c.count_limit-count.result c.in_ok-best.best c.questions.nodes c.ask.new.nodes c.questions.tally c.ask.new.tally a) c.in-Nothing.is c.in_ok-point.ensures.answer in
+    subst (λ (s : Swept). IsSwept (g.T.Starter.told c.args.starter.now) c.args.mill.now c.args.head c.args.nodes.now c.ask.new.nodes c.args.tally.now c.ask.new.tally s) (sym c.finished.ensures)
+    (ended c.questions.invariant.0 c.ask.ensures.opens c.ask.ensures.counters c.in-Nothing.steps (nothing_opens (g.T.Starter.told c.args.starter.now) c.args.mill.now (last_sums None c.questions.points.items) c.count_limit-count.result c.in_ok-best.best count as_told c.in-Nothing.steps answer.0) answer.1).0
+
+pub returns-in-Nothing-clause-made : goal.returns-in-Nothing-clause-made
+returns-in-Nothing-clause-made g c =
+    let count : c.count_limit-count.result ≡ count_after (last_sums None c.questions.points.items) = c.count_limit-count.ensures.value ∙ ap (λ (ps : List Point). count_after (last_sums None ps)) c.deref.ensures.value in
+    let as_told : IsAsTold (g.T.Starter.told c.args.starter.now) c.args.mill.now c.count_limit-count.result c.in_ok-best.best = subst (λ (t : Telling). IsAsTold t c.args.mill.now c.count_limit-count.result c.in_ok-best.best) c.questions.invariant.2 c.in_ok-best.ensures.as_told in
+    let answer : IsNothing c.args.mill.now (opening_of c.args.mill.now c.count_limit-count.result c.in_ok-best.best) c.in-Nothing.steps × AreCounted (length c.in-Nothing.steps.steps) (bare_marks c.in-Nothing.steps.marks) c.questions.nodes c.ask.new.nodes c.questions.tally c.ask.new.tally = subst (λ (a : Answer). IsAnswered c.args.mill.now c.count_limit-count.result c.in_ok-best.best c.questions.nodes c.ask.new.nodes c.questions.tally c.ask.new.tally a) c.in-Nothing.is c.in_ok-point.ensures.answer in
+    subst (λ (s : Swept). CountsNodes (made_nodes c.args.head s) c.args.nodes.now c.ask.new.nodes) (sym c.finished.ensures)
+    (ended c.questions.invariant.0 c.ask.ensures.opens c.ask.ensures.counters c.in-Nothing.steps (nothing_opens (g.T.Starter.told c.args.starter.now) c.args.mill.now (last_sums None c.questions.points.items) c.count_limit-count.result c.in_ok-best.best count as_told c.in-Nothing.steps answer.0) answer.1).1
+
+pub returns-in-Nothing-clause-plain : goal.returns-in-Nothing-clause-plain
+returns-in-Nothing-clause-plain g c =
+    let count : c.count_limit-count.result ≡ count_after (last_sums None c.questions.points.items) = c.count_limit-count.ensures.value ∙ ap (λ (ps : List Point). count_after (last_sums None ps)) c.deref.ensures.value in
+    let as_told : IsAsTold (g.T.Starter.told c.args.starter.now) c.args.mill.now c.count_limit-count.result c.in_ok-best.best = subst (λ (t : Telling). IsAsTold t c.args.mill.now c.count_limit-count.result c.in_ok-best.best) c.questions.invariant.2 c.in_ok-best.ensures.as_told in
+    λ t empty. record {
+      answer = subst (λ (s : Swept). IsAnswer s) (sym c.finished.ensures) (ended_answers c.questions.points.items c.in-Nothing.steps);
+      two = omega (arith, (c.in_ok-point.ensures.plain (plainly_opens (g.T.Starter.told c.args.starter.now) c.args.mill.now t c.count_limit-count.result c.in_ok-best.best as_told c.args.nodes.now c.questions.nodes c.questions.points.items (c.questions.invariant.0.plainly t empty) count)).one, plainly_one c.args.mill.now t.plan c.questions.points.items c.args.nodes.now c.questions.nodes (c.questions.invariant.0.plainly t empty));
+    }
+
+pub returns-in-Cut-clause-plain : goal.returns-in-Cut-clause-plain
+returns-in-Cut-clause-plain g c =
+    let count : c.count_limit-count.result ≡ count_after (last_sums None c.questions.points.items) = c.count_limit-count.ensures.value ∙ ap (λ (ps : List Point). count_after (last_sums None ps)) c.deref.ensures.value in
+    let as_told : IsAsTold (g.T.Starter.told c.args.starter.now) c.args.mill.now c.count_limit-count.result c.in_ok-best.best = subst (λ (t : Telling). IsAsTold t c.args.mill.now c.count_limit-count.result c.in_ok-best.best) c.questions.invariant.2 c.in_ok-best.ensures.as_told in
+    λ t empty. record {
+      answer = subst (λ (a : Answer). IsClosed a) c.in-Cut.is (c.in_ok-point.ensures.plain (plainly_opens (g.T.Starter.told c.args.starter.now) c.args.mill.now t c.count_limit-count.result c.in_ok-best.best as_told c.args.nodes.now c.questions.nodes c.questions.points.items (c.questions.invariant.0.plainly t empty) count)).closed;
+      two = omega (arith, (c.in_ok-point.ensures.plain (plainly_opens (g.T.Starter.told c.args.starter.now) c.args.mill.now t c.count_limit-count.result c.in_ok-best.best as_told c.args.nodes.now c.questions.nodes c.questions.points.items (c.questions.invariant.0.plainly t empty) count)).one, plainly_one c.args.mill.now t.plan c.questions.points.items c.args.nodes.now c.questions.nodes (c.questions.invariant.0.plainly t empty));
+    }
