@@ -10,7 +10,7 @@ ghost use Rattle.slab_sweep.specs.Placing.{placed};
 use mill_model::Proved;
 use std::alloc::AllocError;
 
-/// The count limit of the next question: one less than the count of the last point, and none before the first point.
+// The count limit of the next question: one less than the count of the last point, and none before the first point.
 pub(crate) fn count_limit(points: &[Proved]) -> Option<i64>
     ensures value { result ≡ count_after (last_sums None points.now) }
     ensures small { IsSmall (number_of result) }
@@ -21,7 +21,7 @@ pub(crate) fn count_limit(points: &[Proved]) -> Option<i64>
     }
 }
 
-/// Adds a point, or, where the last one has its loss, puts its sums and its plan in the last one's place, whose tree stays.
+// Adds a point, or, where the last one has its loss, puts its sums and its plan in the last one's place, whose tree stays.
 pub(crate) fn place(points: &mut Vec<Proved>, point: Proved) -> Result<(), AllocError>
     ensures { OnOk result (points.new.items ≡ placed points.old.items point) }
 {

@@ -21,18 +21,18 @@ use slab_node::Tally;
 use slab_tree::{Ended, Nodes, Tree};
 use std::alloc::{AllocError, Global};
 
-/// What one question answered.
+// What one question answered.
 #[derive(Drop)]
 pub(crate) enum Answer {
-    /// The plan of least loss, with a tree that leaves no smaller loss.
+    // The plan of least loss, with a tree that leaves no smaller loss.
     Found(Proved),
-    /// There is none, as this tree shows.
+    // There is none, as this tree shows.
     Nothing(Steps),
-    /// The tree as far as it came within the node limit.
+    // The tree as far as it came within the node limit.
     Cut(OpenTree),
 }
 
-/// Asks for the plan of least loss within a count limit. Some plan within it may be handed in.
+// Asks for the plan of least loss within a count limit. Some plan within it may be handed in.
 pub(crate) fn ask(
     alloc: Global,
     mill: &Mill,
