@@ -11,3 +11,6 @@ mod swept;
 
 pub use sweeping::sweep;
 pub use swept::Swept;
+
+#[cfg(test)]
+mod tests;
