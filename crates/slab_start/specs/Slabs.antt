@@ -1,5 +1,5 @@
 -- Slabs that are filled: an open new slab counts with the greatest listed size.
-use Rattle.std.specs.Prelude.{ℕ, Bool, ◌&&◌, not, nat_le, nat_lt, List, [], min}
+use Rattle.std.specs.Prelude.{ℕ, Bool, ◌&&◌, not, nat_le, nat_lt, List, [], min, slice_index_or}
 use Rattle.std.specs.List.{filter, fold}
 use Rattle.mill_model.specs.declared.kind.Kind.{Kind}
 use Rattle.mill_model.specs.declared.kind.Kind.TheVariants.{New, Old}
@@ -14,6 +14,10 @@ empty kind = record { kind = kind; orders = [] }
 -- the slab with one order more; its orders rise
 abbrev pub with_order : ℕ → Column → Column
 with_order o c = record c { orders = put_before (nat_lt o) o c.orders }
+
+-- the first of its orders, which is the least
+abbrev pub least_order : Column → ℕ
+least_order c = slice_index_or c.orders 0 0
 
 -- the load stays within the size, there are not too many colours, and the order isn't barred from the slab
 abbrev pub takes : Mill → ℕ → Column → Bool

@@ -10,8 +10,6 @@ mod first_fit;
 mod made;
 mod plan;
 mod slab;
-#[cfg(test)]
-mod tests;
 mod weights;
 
 pub use first_fit::FirstFit;
