@@ -1,8 +1,8 @@
 //! Where an order goes.
 
-ghost use Rattle.std.specs.Prelude.{◌≡◌, ◌<◌, ◌≤◌, [], length, Some, None, IfOk, if◌then◌else◌};
+ghost use Rattle.std.specs.Prelude.{◌≡◌, [], Some, None, IfOk, if◌then◌else◌};
 ghost use Rattle.std.specs.Option.{option_map};
-ghost use Rattle.std.specs.List.{position, find, map, count_by, filter, list_any, range_with_len};
+ghost use Rattle.std.specs.List.{position, find, count_by, list_any};
 ghost use Rattle.mill_model.specs.Columns.{is_old as is_surplus};
 ghost use Rattle.mill_model.specs.Plans.{is_new};
 ghost use Rattle.slab_start.specs.Slabs.{empty, takes as takes_order};
