@@ -1,0 +1,130 @@
+//! Where an order goes.
+
+ghost use Rattle.std.specs.Prelude.{◌≡◌, [], Some, None, IfOk, if◌then◌else◌};
+ghost use Rattle.std.specs.Option.{option_map};
+ghost use Rattle.std.specs.List.{position, find, count_by, list_any};
+ghost use Rattle.mill_model.specs.Columns.{is_old as is_surplus};
+ghost use Rattle.mill_model.specs.Plans.{is_new};
+ghost use Rattle.slab_start.specs.Slabs.{empty, takes as takes_order};
+ghost use Rattle.slab_start.specs.FirstFit.{place_orders, place_order as placed_order, is_below as is_below_limit, kinds_of, kinds_to_open, free_kinds};
+
+use crate::slab::{Slab, greatest_size, takes};
+use mill_model::{Kind, MOST_SLABS, Mill};
+use std::alloc::{AllocError, Global};
+
+// Places the orders in turn, each on the first slab that takes it.
+pub(crate) fn fill(
+    alloc: Global,
+    mill: &Mill,
+    limit: Option<i64>,
+    orders: &[u16],
+) -> Result<Option<Vec<Slab>>, AllocError>
+    ensures { IfOk result (λ found. option_map (λ slabs. slabs.items) found ≡ place_orders mill.now limit orders.now []) }
+{
+    let mut slabs = Vec::new(alloc);
+    for order in orders {
+        if !place_order(alloc, mill, limit, *order, &mut slabs)? {
+            return Ok(None);
+        }
+    }
+    Ok(Some(slabs))
+}
+
+// Places an order on the first slab that takes it, where there is one or may be one more.
+fn place_order(
+    alloc: Global,
+    mill: &Mill,
+    limit: Option<i64>,
+    order: u16,
+    slabs: &mut Vec<Slab>,
+) -> Result<bool, AllocError>
+    ensures { IfOk result (λ placed. placed_order mill.now limit order slabs.old.items ≡ (if placed then Some slabs.new.items else None)) }
+{
+    if let Some(k) = first_that_takes(mill, order, slabs) {
+        slabs[k].put(order)?;
+        return Ok(true);
+    }
+    match kind_to_open(mill, limit, order, slabs) {
+        Some(kind) => {
+            let mut slab = Slab::empty(alloc, kind);
+            slab.put(order)?;
+            slabs.push(slab)?;
+            Ok(true)
+        }
+        None => Ok(false),
+    }
+}
+
+fn first_that_takes(mill: &Mill, order: u16, slabs: &[Slab]) -> Option<usize>
+    ensures { result ≡ position (takes_order mill.now order) slabs.now }
+{
+    slabs.iter().position(|slab| slab.takes(mill, order))
+}
+
+// The slab to be opened for an order: a new one, where it may be and takes it, or the first free surplus slab that does.
+fn kind_to_open(mill: &Mill, limit: Option<i64>, order: u16, slabs: &[Slab]) -> Option<Kind>
+    ensures { result ≡ find (λ kind. takes_order mill.now order (empty kind)) (kinds_to_open mill.now limit slabs.now) }
+{
+    let new = Kind::New(greatest_size(mill));
+    if is_below(new_slabs(slabs), limit) && takes(mill, new, &[], order) {
+        return Some(new);
+    }
+    surplus_to_open(mill, order, slabs)
+}
+
+fn surplus_to_open(mill: &Mill, order: u16, slabs: &[Slab]) -> Option<Kind>
+    ensures { result ≡ find (λ kind. takes_order mill.now order (empty kind)) (free_kinds mill.now slabs.now) }
+{
+    let count = mill.yard().len();
+    prove!(count <= MOST_SLABS as usize);
+    for s in 0..count {
+        let kind = Kind::Old(s as u16);
+        if !is_open(slabs, s as u16) && takes(mill, kind, &[], order) {
+            return Some(kind);
+        }
+    }
+    None
+}
+
+fn is_open(slabs: &[Slab], surplus: u16) -> bool
+    ensures { result ≡ list_any (is_surplus surplus) (kinds_of slabs.now) }
+{
+    for slab in slabs {
+        if is_old(slab.kind(), surplus) {
+            return true;
+        }
+    }
+    false
+}
+
+fn is_old(kind: Kind, surplus: u16) -> bool
+    ensures { result ≡ is_surplus surplus kind }
+{
+    match kind {
+        Kind::New(_) => false,
+        Kind::Old(other) => other == surplus,
+    }
+}
+
+// How many of the slabs are new.
+fn new_slabs(slabs: &[Slab]) -> usize
+    ensures { result ≡ count_by is_new (kinds_of slabs.now) }
+{
+    let mut count = 0;
+    for slab in slabs {
+        match slab.kind() {
+            Kind::New(_) => count += 1,
+            Kind::Old(_) => {}
+        }
+    }
+    count
+}
+
+fn is_below(count: usize, limit: Option<i64>) -> bool
+    ensures { result ≡ is_below_limit count limit }
+{
+    match limit {
+        None => true,
+        Some(limit) => limit >= 0 && (count as u64) < limit as u64,
+    }
+}
