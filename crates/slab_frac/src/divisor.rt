@@ -71,7 +71,7 @@ pub(crate) fn wide_divisor(a: u128, b: u128) -> u128
 }
 
 /// The quotient, without a division where the divisor is 1.
-#[inline]
+#[inline(always)]
 pub(crate) fn word_quotient(n: u64, divisor: u64) -> u64
     requires { 0 < divisor }
     ensures { result ≡ n / divisor }
@@ -84,7 +84,7 @@ pub(crate) fn word_quotient(n: u64, divisor: u64) -> u64
 
 /// A common divisor of two denominators that is worth its search: themselves where they are equal, 1 where their
 /// product is a word, and else the greatest.
-#[inline]
+#[inline(always)]
 pub(crate) fn shared_divisor(a: u64, b: u64) -> u64
     requires { 0 < a }
     ensures above { 0 < result }

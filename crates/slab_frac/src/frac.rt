@@ -29,7 +29,7 @@ impl Model for Frac {
 }
 
 /// The product of a numerator and a denominator.
-#[inline]
+#[inline(always)]
 pub(crate) fn cross(num: i64, den: u64) -> i128
     requires num { unsigned_abs num ≤ 2 ^ 62 }
     requires den { den ≤ 2 ^ 62 }
@@ -40,7 +40,7 @@ pub(crate) fn cross(num: i64, den: u64) -> i128
 }
 
 /// The product of two numerators.
-#[inline]
+#[inline(always)]
 fn product(left: i64, right: i64) -> i128
     requires left { unsigned_abs left ≤ 2 ^ 62 }
     requires right { unsigned_abs right ≤ 2 ^ 62 }
@@ -60,7 +60,7 @@ fn signed_as(like: i64, n: i128) -> i128
 }
 
 /// The difference of two fractions that need not be in lowest terms. A result out of range is counted.
-#[inline]
+#[inline(always)]
 fn difference(num: i64, den: u64, other_num: i64, other_den: u64, wides: &mut Wides) -> Option<Frac>
     requires first { IsInRange (record { num = num; den = den }) }
     requires above { 0 < den }
@@ -188,7 +188,7 @@ impl Frac {
 
     /// This less the product of two others, reduced once: none where the result or the product is out of range, which
     /// is counted. A product out of range needs no end in none, since the result is computed in 128 bits.
-    #[inline]
+    #[inline(always)]
     pub fn minus_product(&self, factor: &Frac, other: &Frac, wides: &mut Wides) -> Option<Frac>
         ensures exact { IsExactlyLess self.now (product_of factor.now other.now) result }
         ensures counter { wides.new ≡ (if is_some result then wides.old else next_count wides.old) }

@@ -11,7 +11,7 @@ use crate::wides::Wides;
 pub(crate) const LIMIT: u128 = 0x4000_0000_0000_0000;
 
 /// Two words, divided by their greatest common divisor.
-#[inline]
+#[inline(always)]
 fn lowest_words(size: u64, den: u64) -> (u64, u64)
     requires { 0 < den }
     ensures { AreLowest size den result.0 result.1 }
@@ -21,7 +21,7 @@ fn lowest_words(size: u64, den: u64) -> (u64, u64)
 }
 
 /// Two numbers, divided by their greatest common divisor.
-#[inline]
+#[inline(always)]
 pub(crate) fn lowest(size: u128, den: u128) -> (u128, u128)
     requires { 0 < den }
     ensures { AreLowest size den result.0 result.1 }
@@ -35,7 +35,7 @@ pub(crate) fn lowest(size: u128, den: u128) -> (u128, u128)
 }
 
 /// The number `size` with the sign of `like`.
-#[inline]
+#[inline(always)]
 pub(crate) fn signed(size: u128, like: i128) -> i64
     requires { size ≤ 2 ^ 62 }
     ensures { result ≡ signed_like like (pos size) }
@@ -54,7 +54,7 @@ pub(crate) fn signed_wide(size: u128, like: i128) -> i128
 }
 
 /// The fraction `num / den` in lowest terms. A result out of range is counted.
-#[inline]
+#[inline(always)]
 pub(crate) fn reduced(num: i128, den: u128, wides: &mut Wides) -> Option<Frac>
     requires { 0 < den }
     ensures exact { IsExactly (record { num = num; den = den }) result }

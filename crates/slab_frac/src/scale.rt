@@ -3,7 +3,7 @@ ghost use Prim.Native.Nat.{◌∣◌};
 ghost use Rattle.slab_counter.specs.Counter.{next_count};
 ghost use Rattle.slab_frac.specs.Scaled.{IsLeastMultiple, IsLeastDenominator, IsMultipleBy, IsCommonForm, HasNoCommonForm};
 
-use crate::divisor::word_divisor;
+use crate::divisor::{word_divisor, word_quotient};
 use crate::frac::{Frac, cross};
 use crate::lowest::LIMIT;
 use crate::wides::Wides;
@@ -13,7 +13,7 @@ fn least_multiple(a: u64, b: u64) -> u128
     requires { 0 < b }
     ensures { IsLeastMultiple a b result }
 {
-    let rest = a / word_divisor(a, b);
+    let rest = word_quotient(a, word_divisor(a, b));
     rest as u128 * b as u128
 }
 
@@ -40,7 +40,7 @@ fn multiple(x: &Frac, shared: u64) -> i128
     requires divides { x.now.den ∣ shared }
     ensures { IsMultipleBy shared x.now result }
 {
-    cross(x.num(), shared / x.denominator())
+    cross(x.num(), word_quotient(shared, x.denominator()))
 }
 
 /// Writes the products of the fractions with their least common denominator into `out`, which is as long as the list,

@@ -262,6 +262,11 @@ impl Basis {
         )
     }
 
+    /// Whether so many pivots moved nothing that the next ones go by the order of the variables.
+    fn is_stuck(&self) -> bool {
+        self.idle >= self.scaled.len().saturating_mul(4).saturating_add(IDLE)
+    }
+
     /// What enters, if something does.
     fn choose(&mut self, problem: &Problem<'_>, wides: &mut Wides) -> Choice
         ensures grows { wides.old ≤ wides.new }
@@ -275,6 +280,7 @@ impl Basis {
             return Choice::Wide;
         };
         turn_back(&mut self.scaled, problem.rows);
+        let stuck = self.is_stuck();
         let pricing = Pricing {
             scaled: &self.scaled,
             costs: if self.aim == Aim::Lessen {
@@ -285,8 +291,7 @@ impl Basis {
             denominator,
         };
         let preferred = if self.prefers { problem.likely } else { &[] };
-        let first = self.idle >= count.saturating_mul(4).saturating_add(IDLE);
-        match choose_entering(&pricing, problem, preferred, first) {
+        match choose_entering(&pricing, problem, preferred, stuck) {
             Some(basic) => Choice::Enters(basic),
             None => Choice::Nothing,
         }
@@ -397,7 +402,8 @@ impl Basis {
             return Step::Wide;
         }
         let pinned = self.aim == Aim::Lessen;
-        match leaving_row(working, &self.basics, &self.direction, pinned, wides) {
+        let stuck = self.is_stuck();
+        match leaving_row(working, &self.basics, &self.direction, pinned, stuck, wides) {
             Leaving::Row(leaver) => {
                 self.idle = if leaver.ratio.num() == 0 {
                     self.idle.saturating_add(1)

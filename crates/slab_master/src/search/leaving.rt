@@ -8,11 +8,18 @@ use crate::search::cells::{cell_at, right_side};
 use slab_frac::{Frac, Wides};
 use std::cmp::Ordering;
 
-/// A row that may leave the basis: how far the entering column can grow, and what is basic there.
+/// A row that may leave the basis.
 #[derive(Clone, Copy)]
 pub(crate) struct Leaver {
     pub(crate) row: usize,
+
+    /// How far the entering column can grow.
     pub(crate) ratio: Frac,
+
+    /// How many cells of the row aren't 0, where that counts.
+    filled: usize,
+
+    /// What is basic in the row.
     basic: Basic,
 }
 
@@ -23,15 +30,29 @@ pub(crate) enum Leaving {
     Unbounded,
 }
 
-/// Whether a candidate leaves before the best one so far.
+/// How many cells aren't 0.
+fn count_filled(cells: &[Frac]) -> usize {
+    cells.iter().filter(|cell| cell.num() != 0).count()
+}
+
+/// Whether a row of this ratio may leave before the best one so far.
+fn may_leave(ratio: &Frac, best: &Option<Leaver>) -> bool {
+    match best {
+        None => true,
+        Some(best) => ratio.cmp(&best.ratio) != Ordering::Greater,
+    }
+}
+
+/// Whether a candidate leaves before the best one so far: by its ratio, then by how few of its cells are filled, so that the
+/// rows stay sparse, then by what is basic.
 fn leaves_before(candidate: &Leaver, best: &Option<Leaver>) -> bool {
     match best {
         None => true,
-        Some(best) => match candidate.ratio.cmp(&best.ratio) {
-            Ordering::Less => true,
-            Ordering::Equal => candidate.basic < best.basic,
-            Ordering::Greater => false,
-        },
+        Some(best) if candidate.ratio != best.ratio => {
+            candidate.ratio.cmp(&best.ratio) == Ordering::Less
+        }
+        Some(best) if candidate.filled != best.filled => candidate.filled < best.filled,
+        Some(best) => candidate.basic < best.basic,
     }
 }
 
@@ -43,12 +64,13 @@ fn bounds(cell: &Frac, basic: Basic, pinned: bool) -> bool
     cell.num() > 0 || (pinned && basic == Basic::Artificial && cell.num() < 0)
 }
 
-/// The row that leaves. Artificial variables that are `pinned` stay 0.
+/// The row that leaves. Artificial variables that are `pinned` stay 0. Where the search is `stuck`, filled cells don't count.
 pub(crate) fn leaving_row(
     rows: &[Vec<Frac>],
     basis: &[Basic],
     direction: &[Frac],
     pinned: bool,
+    stuck: bool,
     wides: &mut Wides,
 ) -> Leaving
     ensures grows { wides.old ≤ wides.new }
@@ -62,9 +84,21 @@ pub(crate) fn leaving_row(
             let Some(ratio) = right_side(cells.as_slice()).div(&cell, wides) else {
                 return Leaving::Wide;
             };
-            let candidate = Leaver { row, ratio, basic };
-            if leaves_before(&candidate, &best) {
-                best = Some(candidate);
+            if may_leave(&ratio, &best) {
+                let filled = if stuck {
+                    0
+                } else {
+                    count_filled(cells.as_slice())
+                };
+                let candidate = Leaver {
+                    row,
+                    ratio,
+                    filled,
+                    basic,
+                };
+                if leaves_before(&candidate, &best) {
+                    best = Some(candidate);
+                }
             }
         }
     }

@@ -1,5 +1,3 @@
-use Rattle.std.proofs.Common.{◌≡◌, ◌+◌, ◌-◌, arith, subst, ◌∙◌}
-use Rattle.slab_frac.specs.Odd.{IsOdd}
 use Rattle.slab_frac.proofs.Twos.{step, least_is_odd, gcd_of_same}
 use Rattle.slab_frac.proofs.divisor.odd_divisor.Goals as goal
 
