@@ -1,8 +1,9 @@
 -- How a run ends, from what its parts did.
-use Rattle.std.proofs.Common.{◌≡◌, ◌≢◌, inl, inr, ℕ, List, ◌++◌, Option, Some, None, refl, sym, ap, ◌∙◌, subst}
+use Rattle.std.proofs.Common.{◌≡◌, ◌≢◌, inl, inr, ℕ, List, ◌++◌, Option, Some, None, Ok, refl, sym, ap, ◌∙◌, subst}
 use Rattle.slab_desk.specs.Desk.{Told, Files, Steps, WhereTold, ChangesLeft, Says, WithPrefix}
 use Rattle.slab_front.specs.Texts.{memory_text}
-use Rattle.slab_front.specs.Owed.{Owing, SaysOnly, Ran}
+use Rattle.slab_front.specs.Words.{Command, Parsed}
+use Rattle.slab_front.specs.Owed.{Owing, OwesOfWords, OwesOfCommand, SaysOnly, Ran}
 use Rattle.slab_front.specs.Endings.{Finishes}
 
 -- reading, and then saying
@@ -41,9 +42,13 @@ ends_owed owes status result text a b c (not5, not6) is read end = elim end.stat
   }) read (end.short e)
 ]
 
+-- what holds of all that a desk may tell
+pub always_told : (P : Told → Type 0) (a : Option Told) → ((t : Told) → P t) → WhereTold a P
+always_told P None f = tt
+always_told P (Some x) f = f x
+
 always : (a : Option Told) → WhereTold a (λ _. Unit {0})
-always None = tt
-always (Some x) = tt
+always a = always_told (λ _. Unit {0}) a (λ _. tt)
 
 -- the text for want of memory
 pub ends_memory : (owes : Files → Owing) (result : ℕ) (a b c : Option Told)
@@ -60,3 +65,7 @@ ends_memory owes result a b c read end = elim end.status [
     owed = λ not _. absurd (not e);
   }) read (end.short e)
 ]
+
+-- what a job owes is what its words owe
+pub ran_parsed : (parsed : Parsed Command) (command : Command) (a b : Option Told) (result : ℕ) → parsed ≡ Ok command → Steps a b (Ran (OwesOfCommand command) result) → Steps a b (Ran (OwesOfWords parsed) result)
+ran_parsed parsed command a b result e ran = subst (λ (p : Parsed Command). Steps a b (Ran (OwesOfWords p) result)) (sym e) ran

@@ -1,9 +1,9 @@
 -- What the parts of a run answer.
-use Rattle.std.specs.Prelude.{◌≡◌, ◌≢◌, ◌⊎◌, ℕ, ◌≤◌, List, length, ⊤, Option, Some, None, Result, Ok, Err}
+use Rattle.std.specs.Prelude.{◌≡◌, ◌≢◌, ◌⊎◌, ◌↔◌, ℕ, ◌≤◌, Bool, true, false, IsTrue, List, length, ⊤, Option, Some, None, Result, Ok, Err, IfErr}
 use Rattle.std.specs.String.{string_bytes}
 use Rattle.std.specs.FinMap.{get}
 use Rattle.slab_counter.specs.Counter.{Rose}
-use Rattle.slab_desk.specs.Desk.{Told, Files, Steps, WhereTold, HasLongFile, Says, WithPrefix}
+use Rattle.slab_desk.specs.Desk.{Told, Files, Steps, WhereTold, HasLongFile, ChangesLeft, Says, WithPrefix}
 use Rattle.mill_model.specs.Mill.{Mill, Yard, with_yard}
 use Rattle.mill_read.specs.declared.fault.TextFault.{TextFault}
 use Rattle.mill_read.specs.declared.fault.TextError.{TextError}
@@ -35,6 +35,29 @@ abbrev pub IsStop : (Files → Owing) → Option Told → ℕ → ℕ → Stop �
 IsStop owes told before now (Refused text) = WhereTold told (λ t. owes t.files 2 (string_bytes text))
 IsStop owes told before now Fault = Rose before now
 IsStop owes told before now Memory = ⊤
+
+-- the answer is that the outside failed
+abbrev pub is_fault : {A : Type 0} → Result A Stop → Bool
+is_fault (Ok value) = false
+is_fault (Err (Refused text)) = false
+is_fault (Err Fault) = true
+is_fault (Err Memory) = false
+
+-- what a part of a run that reads files did: it stopped only for such a reason, changed nothing but what is left to read,
+-- and the desk's last call failed exactly where the answer is a fault, which alone changes the count of faults
+pub record HasOnlyRead {A : Type 0} (IsReason : Option Told → ℕ → ℕ → Stop → Type 0) (old new : Option Told) (before now : ℕ) (failed : Bool) (result : Result A Stop) : Type 0 where
+  pub stop : IfErr result (IsReason old before now)
+  pub left : Steps old new ChangesLeft
+  pub later : before ≤ now
+  pub kept : is_fault result ≡ false → now ≡ before
+  pub stopped : failed ≡ is_fault result
+
+-- a run ends with 5 exactly where the desk's last call failed, and the count of faults explains it
+pub record EndsByFaults (before now : ℕ) (failed : Bool) (status : ℕ) : Type 0 where
+  pub fault : status ≡ 5 → Rose before now
+  pub later : before ≤ now
+  pub kept : status ≢ 5 → now ≡ before
+  pub stopped : (status ≡ 5) ↔ IsTrue failed
 
 abbrev pub IsEnding : (Files → Owing) → Option Told → Ending → Type 0
 IsEnding owes told ending = WhereTold told (λ t. owes t.files ending.status (string_bytes ending.text))

@@ -84,10 +84,14 @@ abbrev pub OwesOfCommand : Command → Files → Owing
 OwesOfCommand (Solves orders) files = OwesOfMill OwesSolved files orders None
 OwesOfCommand (Judges orders plan yard) files = OwesOfMill (OwesOfPlan files plan) files orders yard
 
+-- what the words ask for, or the first that can't stand
+abbrev pub OwesOfWords : Parsed Command → Files → Owing
+OwesOfWords parsed files status text =
+    MatchResult parsed (λ command. OwesOfCommand command files status text) (λ number. Exactly 1 (usage_text number) status text)
+
 -- the words, the order file, the yard file, the plan file, the number of orders, the result: the first refusal ends a run
 abbrev pub Owes : List (List ℕ) → Files → Owing
-Owes words files status text =
-    MatchResult (job_of words) (λ command. OwesOfCommand command files status text) (λ number. Exactly 1 (usage_text number) status text)
+Owes words = OwesOfWords (job_of words)
 
 -- the statuses that these words may end with, whatever the desk tells, beside those of a fault and of want of memory
 abbrev pub MayEnd : Parsed Command → ℕ → Type 0

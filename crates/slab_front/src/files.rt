@@ -1,13 +1,13 @@
 // The files of a run, read one after another.
-ghost use Rattle.std.specs.Prelude.{◌≡◌, ◌≤◌, [], length, IfOk, IfErr};
+ghost use Rattle.std.specs.Prelude.{◌≡◌, ◌≤◌, [], length, IfOk};
 ghost use Rattle.std.specs.Option.{option_map};
-ghost use Rattle.slab_desk.specs.Desk.{Steps, WhereTold, HasFile, HasLongFile, ChangesLeft};
+ghost use Rattle.slab_desk.specs.Desk.{WhereTold, HasFile, HasLongFile};
 ghost use Rattle.mill_model.specs.Mill.{AreBarsAmong};
 ghost use Rattle.mill_read.specs.OrderFile.{order_file};
 ghost use Rattle.mill_read.specs.YardFile.{yard_file};
 ghost use Rattle.mill_read.specs.PlanFile.{plan_file};
 ghost use Rattle.slab_front.specs.Owed.{Nothing, OwesOfFile, OwesOfMill};
-ghost use Rattle.slab_front.specs.Endings.{HasValue, HasMill, IsStop, IsTooLong, IsRefusal};
+ghost use Rattle.slab_front.specs.Endings.{HasOnlyRead, HasValue, HasMill, IsStop, IsTooLong, IsRefusal};
 
 use crate::ending::Stop;
 use crate::texts::{Source, fault_text, long_text};
@@ -27,9 +27,8 @@ pub fn read_mill<D: Desk>(
 ) -> Result<Mill, Stop>
     ensures mill { IfOk result (λ mill. WhereTold (D.told desk.old) (λ t. HasMill orders.now (option_map (λ name. name.now) yard.entry) mill t.files)) }
     ensures empty { yard.entry ≡ None → IfOk result (λ mill. mill.yard ≡ []) }
-    ensures stop { IfErr result (IsStop (λ files. OwesOfMill Nothing files orders.now (option_map (λ name. name.now) yard.entry)) (D.told desk.old) (D.faults desk.old) (D.faults desk.new)) }
-    ensures left { Steps (D.told desk.old) (D.told desk.new) ChangesLeft }
-    ensures later { D.faults desk.old ≤ D.faults desk.new }
+    ensures reads { HasOnlyRead (IsStop (λ files. OwesOfMill Nothing files orders.now (option_map (λ name. name.now) yard.entry)))
+        (D.told desk.old) (D.told desk.new) (D.faults desk.old) (D.faults desk.new) (D.stopped desk.new) result }
 {
     let mut mill = bare_mill(alloc, desk, orders)?;
     match yard {
@@ -46,9 +45,8 @@ pub fn read_mill<D: Desk>(
 fn bare_mill<D: Desk>(alloc: Global, desk: &mut D, name: &str) -> Result<Mill, Stop>
     ensures mill { IfOk result (λ mill. WhereTold (D.told desk.old) (λ t. HasValue order_file name.now mill t.files)) }
     ensures empty { IfOk result (λ mill. mill.yard ≡ []) }
-    ensures stop { IfErr result (IsStop (λ files. OwesOfFile Source.Orders order_file Nothing files name.now) (D.told desk.old) (D.faults desk.old) (D.faults desk.new)) }
-    ensures left { Steps (D.told desk.old) (D.told desk.new) ChangesLeft }
-    ensures later { D.faults desk.old ≤ D.faults desk.new }
+    ensures reads { HasOnlyRead (IsStop (λ files. OwesOfFile Source.Orders order_file Nothing files name.now))
+        (D.told desk.old) (D.told desk.new) (D.faults desk.old) (D.faults desk.new) (D.stopped desk.new) result }
 {
     let bytes = bytes_in(alloc, desk, Source::Orders, name)?;
     match read_orders(alloc, &bytes) {
@@ -61,9 +59,8 @@ fn bare_mill<D: Desk>(alloc: Global, desk: &mut D, name: &str) -> Result<Mill, S
 fn yard_in<D: Desk>(alloc: Global, desk: &mut D, mill: &Mill, name: &str) -> Result<Yard, Stop>
     ensures yard { IfOk result (λ yard. WhereTold (D.told desk.old) (λ t. HasValue (yard_file (length mill.now.orders)) name.now yard t.files)) }
     ensures bars { IfOk result (λ yard. AreBarsAmong (length mill.now.orders) yard.bars) }
-    ensures stop { IfErr result (IsStop (λ files. OwesOfFile Source.Yard (yard_file (length mill.now.orders)) Nothing files name.now) (D.told desk.old) (D.faults desk.old) (D.faults desk.new)) }
-    ensures left { Steps (D.told desk.old) (D.told desk.new) ChangesLeft }
-    ensures later { D.faults desk.old ≤ D.faults desk.new }
+    ensures reads { HasOnlyRead (IsStop (λ files. OwesOfFile Source.Yard (yard_file (length mill.now.orders)) Nothing files name.now))
+        (D.told desk.old) (D.told desk.new) (D.faults desk.old) (D.faults desk.new) (D.stopped desk.new) result }
 {
     let bytes = bytes_in(alloc, desk, Source::Yard, name)?;
     match read_yard(alloc, mill, &bytes) {
@@ -76,9 +73,8 @@ fn yard_in<D: Desk>(alloc: Global, desk: &mut D, mill: &Mill, name: &str) -> Res
 pub fn plan_in<D: Desk>(alloc: Global, desk: &mut D, mill: &Mill, name: &str) -> Result<Plan, Stop>
     ensures plan { IfOk result (λ plan. WhereTold (D.told desk.old) (λ t. HasValue (plan_file (length mill.now.orders)) name.now plan t.files)) }
     ensures places { IfOk result (λ plan. length plan.place ≡ length mill.now.orders) }
-    ensures stop { IfErr result (IsStop (λ files. OwesOfFile Source.Plan (plan_file (length mill.now.orders)) Nothing files name.now) (D.told desk.old) (D.faults desk.old) (D.faults desk.new)) }
-    ensures left { Steps (D.told desk.old) (D.told desk.new) ChangesLeft }
-    ensures later { D.faults desk.old ≤ D.faults desk.new }
+    ensures reads { HasOnlyRead (IsStop (λ files. OwesOfFile Source.Plan (plan_file (length mill.now.orders)) Nothing files name.now))
+        (D.told desk.old) (D.told desk.new) (D.faults desk.old) (D.faults desk.new) (D.stopped desk.new) result }
 {
     let bytes = bytes_in(alloc, desk, Source::Plan, name)?;
     match read_plan(alloc, mill, &bytes) {
@@ -96,9 +92,8 @@ fn bytes_in<D: Desk>(
 ) -> Result<Vec<u8>, Stop>
     ensures bytes { IfOk result (λ v. WhereTold (D.told desk.old) (HasFile name.now v.items)) }
     ensures fits { IfOk result (λ v. length v.items ≤ 1048576) }
-    ensures stop { IfErr result (IsTooLong source name.now (D.told desk.old) (D.faults desk.old) (D.faults desk.new)) }
-    ensures left { Steps (D.told desk.old) (D.told desk.new) ChangesLeft }
-    ensures later { D.faults desk.old ≤ D.faults desk.new }
+    ensures reads { HasOnlyRead (IsTooLong source name.now)
+        (D.told desk.old) (D.told desk.new) (D.faults desk.old) (D.faults desk.new) (D.stopped desk.new) result }
 {
     match read_all(alloc, desk, name, LONGEST) {
         Ok(bytes) => Ok(bytes),

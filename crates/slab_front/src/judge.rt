@@ -1,10 +1,9 @@
-ghost use Rattle.std.specs.Prelude.{◌≡◌, ◌⊎◌, ◌≤◌, length, IfOk, IfErr};
+ghost use Rattle.std.specs.Prelude.{◌≡◌, ◌⊎◌, length, IfOk};
 ghost use Rattle.std.specs.Option.{option_map};
 ghost use Rattle.std.specs.String.{string_bytes};
-ghost use Rattle.slab_desk.specs.Desk.{Steps, ChangesLeft};
 ghost use Rattle.slab_front.specs.Words.Command.{Judges};
 ghost use Rattle.slab_front.specs.Owed.{OwesVerdict, OwesOfCommand};
-ghost use Rattle.slab_front.specs.Endings.{IsEnding, IsStop};
+ghost use Rattle.slab_front.specs.Endings.{HasOnlyRead, IsEnding, IsStop};
 
 use crate::ending::{Ending, Stop};
 use crate::files::{plan_in, read_mill};
@@ -23,9 +22,8 @@ pub fn judge<D: Desk>(
 ) -> Result<Ending, Stop>
     ensures ending { IfOk result (IsEnding (OwesOfCommand (Judges orders.now plan.now (option_map (λ name. name.now) yard.entry))) (D.told desk.old)) }
     ensures status { IfOk result (λ ending. (ending.status ≡ 0) ⊎ (ending.status ≡ 8)) }
-    ensures stop { IfErr result (IsStop (OwesOfCommand (Judges orders.now plan.now (option_map (λ name. name.now) yard.entry))) (D.told desk.old) (D.faults desk.old) (D.faults desk.new)) }
-    ensures left { Steps (D.told desk.old) (D.told desk.new) ChangesLeft }
-    ensures later { D.faults desk.old ≤ D.faults desk.new }
+    ensures reads { HasOnlyRead (IsStop (OwesOfCommand (Judges orders.now plan.now (option_map (λ name. name.now) yard.entry))))
+        (D.told desk.old) (D.told desk.new) (D.faults desk.old) (D.faults desk.new) (D.stopped desk.new) result }
 {
     let mill = read_mill(alloc, desk, orders, yard)?;
     let plan = plan_in(alloc, desk, &mill, plan)?;

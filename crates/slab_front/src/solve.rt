@@ -1,9 +1,8 @@
-ghost use Rattle.std.specs.Prelude.{◌≡◌, ◌⊎◌, ◌≤◌, [], IfOk, IfErr};
+ghost use Rattle.std.specs.Prelude.{◌≡◌, ◌⊎◌, [], IfOk};
 ghost use Rattle.std.specs.String.{string_bytes};
-ghost use Rattle.slab_desk.specs.Desk.{Steps, ChangesLeft};
 ghost use Rattle.slab_front.specs.Words.Command.{Solves};
 ghost use Rattle.slab_front.specs.Owed.{OwesSolved, OwesOfCommand};
-ghost use Rattle.slab_front.specs.Endings.{IsEnding, IsStop};
+ghost use Rattle.slab_front.specs.Endings.{HasOnlyRead, IsEnding, IsStop};
 
 use crate::ending::{Ending, Stop};
 use crate::files::read_mill;
@@ -19,9 +18,8 @@ const MOST_ORDERS: usize = 5;
 pub fn solve<D: Desk>(alloc: Global, desk: &mut D, orders: &str) -> Result<Ending, Stop>
     ensures ending { IfOk result (IsEnding (OwesOfCommand (Solves orders.now)) (D.told desk.old)) }
     ensures status { IfOk result (λ ending. (ending.status ≡ 0) ⊎ ((ending.status ≡ 4) ⊎ (ending.status ≡ 9))) }
-    ensures stop { IfErr result (IsStop (OwesOfCommand (Solves orders.now)) (D.told desk.old) (D.faults desk.old) (D.faults desk.new)) }
-    ensures left { Steps (D.told desk.old) (D.told desk.new) ChangesLeft }
-    ensures later { D.faults desk.old ≤ D.faults desk.new }
+    ensures reads { HasOnlyRead (IsStop (OwesOfCommand (Solves orders.now)))
+        (D.told desk.old) (D.told desk.new) (D.faults desk.old) (D.faults desk.new) (D.stopped desk.new) result }
 {
     let mill = read_mill(alloc, desk, orders, None)?;
     Ok(solved(alloc, &mill)?)

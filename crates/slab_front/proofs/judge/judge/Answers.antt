@@ -23,4 +23,4 @@ returns-clause-ending g c =
     (λ files has read. owes_mill (OwesOfPlan files name) files orders yard mill status text has
     (owes_value PlanSource (plan_file (length mill.orders)) (OwesVerdict mill) files name plan status text read c.in_ok-verdict.ensures.owed))
     c.in_ok-mill.ensures.mill
-    (told_before (HasValue (plan_file (length mill.orders)) name plan) (g.D.Desk.told c.args.desk.now) (g.D.Desk.told c.read_mill.new.desk) c.in_ok-mill.ensures.left c.in_ok-plan.ensures.plan)
+    (told_before (HasValue (plan_file (length mill.orders)) name plan) (g.D.Desk.told c.args.desk.now) (g.D.Desk.told c.read_mill.new.desk) c.in_ok-mill.ensures.reads.left c.in_ok-plan.ensures.plan)
