@@ -13,7 +13,7 @@ fn refill(list: &mut Vec<u16>, value: u16, count: usize)
     ensures room { vec_capacity list.new ≡ vec_capacity list.old }
 {
     list.clear();
-    for _done in 0..count {
+    for _ in 0..count {
         list.push_reserved(value);
     }
 }

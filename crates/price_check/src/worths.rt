@@ -14,7 +14,7 @@ fn clear_worths(colours: u16, worths: &mut Vec<i128>)
     ensures room { vec_capacity worths.new ≡ vec_capacity worths.old }
 {
     worths.clear();
-    for _done in 0..usize::from(colours) + 1 {
+    for _ in 0..usize::from(colours) + 1 {
         worths.push_reserved(0);
     }
 }
