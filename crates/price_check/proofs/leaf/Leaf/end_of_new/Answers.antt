@@ -1,4 +1,4 @@
-use Rattle.std.proofs.Common.{◌≡◌, ℕ, ◌≤◌, List, Contains, sym, subst, arith}
+use Rattle.std.proofs.Common.{ℕ, ◌≤◌, List, Contains, sym, subst, arith}
 use Rattle.std.proofs.lemmas.Int.{ints}
 use Rattle.std.proofs.lemmas.List.Elements.{All-contains}
 use Rattle.mill_model.specs.LeastSizes.{IsLeastSize}

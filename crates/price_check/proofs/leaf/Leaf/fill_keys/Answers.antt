@@ -1,4 +1,4 @@
-use Rattle.std.proofs.Common.{◌≡◌, ◌<◌, ◌≤◌, length, arith}
+use Rattle.std.proofs.Common.{arith}
 use Rattle.price_check.proofs.leaf.Leaf.fill_keys.Goals as goal
 
 pub push_reserved-requires : goal.push_reserved-requires
