@@ -1,7 +1,7 @@
 //! Throw-away dives: a cover's large columns are decided one after another, in the hope of a plan.
 
 ghost use Rattle.std.specs.Prelude.{◌≡◌, IfOk, IfSome};
-ghost use Rattle.slab_node.specs.Tallies.{AreNoLess};
+ghost use Rattle.slab_relax.specs.Tallies.{AreNoLess};
 ghost use Rattle.slab_node.specs.Turns.{IsNode};
 ghost use Rattle.slab_tree.specs.FoundPlans.{IsFoundPlan};
 ghost use Rattle.slab_tree.specs.Trails.{HasExtentOf};

@@ -3,7 +3,7 @@ use Rattle.mill_model.specs.Mill.{Mill}
 use Rattle.mill_model.specs.Decisions.{Decision}
 use Rattle.mill_model.specs.Plain.{IsPlainlyRefuted}
 use Rattle.mill_model.specs.Trees.{most_nodes}
-use Rattle.slab_node.specs.Tallies.{HaveCauses}
+use Rattle.slab_relax.specs.Tallies.{HaveCauses}
 use Rattle.slab_tree.specs.declared.node.Node.{Node}
 use Rattle.slab_tree.specs.declared.tree.Ended.{Ended}
 use Rattle.slab_tree.specs.Marking.{HoldsCover}
