@@ -1,5 +1,5 @@
 -- A cover stays one without the columns whose multiplier is 0.
-use Rattle.std.proofs.Common.{◌≡◌, ℕ, zero, suc, ◌+◌, ◌*◌, ◌^◌, ◌<◌, ◌≤◌, ℤ, pos, negsuc, ◌*ℤ◌, ◌≤ℤ◌, Bool, true, false, Some, List, [], ◌∷◌, ◌++◌, map, length, All, refl, sym, ap, ap₂, subst, ◌∙◌, append_assoc, append-nil, arith, cond, unsigned_abs}
+use Rattle.std.proofs.Common.{◌≡◌, ℕ, zero, suc, ◌+◌, ◌*◌, ◌^◌, ◌<◌, ◌≤◌, ℤ, pos, negsuc, ◌*ℤ◌, ◌<ℤ◌, ◌≤ℤ◌, Bool, true, false, Some, List, [], ◌∷◌, ◌++◌, map, length, All, refl, sym, ap, ap₂, subst, ◌∙◌, append_assoc, append-nil, arith, cond, unsigned_abs}
 use Rattle.std.specs.List.{sum_by, AllByRecursion}
 use Rattle.std.proofs.lemmas.Int.{ints}
 use Rattle.std.proofs.lemmas.List.{map-append}
@@ -92,21 +92,21 @@ shown_cover m limits decisions columns cover d ks signs h = record {
 
 -- ---- the multipliers
 
-scaled_sign : (d : ℕ) (x : Fraction) (k : ℤ) → pos 0 ≤ℤ x.num → IsMultipleBy d x k → pos 0 ≤ℤ k
+scaled_sign : (d : ℕ) (x : Fraction) (k : ℤ) → pos 0 <ℤ x.num → IsMultipleBy d x k → pos 0 ≤ℤ k
 scaled_sign d x (pos k) h w = omega (arith, ints)
 scaled_sign d x (negsuc k) h w = absurd (below k x.den x.num d w.0 h w.1)
   where
-    below : (k den : ℕ) (num : ℤ) (d : ℕ) → 0 < den → pos 0 ≤ℤ num → negsuc k *ℤ pos den ≡ num *ℤ pos d → ⊥
+    below : (k den : ℕ) (num : ℤ) (d : ℕ) → 0 < den → pos 0 <ℤ num → negsuc k *ℤ pos den ≡ num *ℤ pos d → ⊥
     below k den (pos num) d lt h e = omega (arith, ints)
     below k den (negsuc num) d lt h e = omega (arith, ints)
 
-scaled_signs : (d : ℕ) (cover : Parts) (ks : List ℤ) → All (λ (part : ColId × Fraction). pos 0 ≤ℤ part.1.num) cover → IsScaled d (multipliers cover) ks → AreNotNegative ks
+scaled_signs : (d : ℕ) (cover : Parts) (ks : List ℤ) → All (λ (part : ColId × Fraction). pos 0 <ℤ part.1.num) cover → IsScaled d (multipliers cover) ks → AreNotNegative ks
 scaled_signs d [] [] h w = tt
 scaled_signs d [] (k ∷ ks) h w = absurd w
 scaled_signs d (part ∷ cover) [] h w = absurd w
 scaled_signs d (part ∷ cover) (k ∷ ks) h w = (
-  scaled_sign d part.1 k (All-head (λ (p : ColId × Fraction). pos 0 ≤ℤ p.1.num) part cover h) w.0,
-  scaled_signs d cover ks (All-tail (λ (p : ColId × Fraction). pos 0 ≤ℤ p.1.num) part cover h) w.1,
+  scaled_sign d part.1 k (All-head (λ (p : ColId × Fraction). pos 0 <ℤ p.1.num) part cover h) w.0,
+  scaled_signs d cover ks (All-tail (λ (p : ColId × Fraction). pos 0 <ℤ p.1.num) part cover h) w.1,
 )
 
 all_small : (ks : List ℤ) → AreInRange ks → AreSmall ks
@@ -122,5 +122,5 @@ pub shows : (m : Mill) (limits : Limits) (decisions : List Decision) (columns : 
 shows m limits decisions columns cover z ks h form = record {
   denominator = denominator_small z form.least.positive form.positive form.in_range.0;
   multipliers = small_shares columns cover ks (all_small ks form.in_range.1);
-  covers = shown_cover m limits decisions columns cover (unsigned_abs z) ks (scaled_signs (unsigned_abs z) cover ks h.signs form.scaled) (h.every (unsigned_abs z) ks form.least.positive form.scaled);
+  covers = shown_cover m limits decisions columns cover (unsigned_abs z) ks (scaled_signs (unsigned_abs z) cover ks h.above form.scaled) (h.every (unsigned_abs z) ks form.least.positive form.scaled);
 }
