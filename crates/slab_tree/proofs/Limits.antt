@@ -64,7 +64,7 @@ cover_greater m smaller limits path h c = record { denominator = c.denominator; 
 pub pool_cover_greater : (m : Mill) (smaller limits : Limits) (path : List Decision) (columns : List Column) (cover : Parts) → AreSmaller smaller limits → IsPoolCover m smaller path columns cover → IsPoolCover m limits path columns cover
 pool_cover_greater m smaller limits path columns cover h c = record {
   within = c.within;
-  signs = c.signs;
+  above = c.above;
   denominator = c.denominator;
   wholes = c.wholes;
   positive = c.positive;
