@@ -21,6 +21,7 @@ const MOST_TURNS: u32 = 300;
 
 // After each turn it decides at most so many columns: those with at least this share, or else the largest.
 const MOST_COLUMNS: usize = 8;
+
 const LARGE: u32 = ONE / 4 * 3;
 
 // A dive from a node whose decisions are the path. It answers a plan within the limits, or none, and leaves other decisions.
