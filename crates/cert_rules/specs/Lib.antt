@@ -7,3 +7,4 @@ pub mod Slabs
 pub mod Spreads
 pub mod Turns
 pub mod Reading
+pub mod Laws
