@@ -4,3 +4,7 @@ pub mod Asks
 pub mod LeafLines
 pub mod Shares
 pub mod TreeLines
+pub mod Trees
+pub mod OpenLines
+pub mod Slabs
+pub mod SlabLines

@@ -12,7 +12,9 @@ use Rattle.mill_model.specs.Mill.{Mill}
 use Rattle.mill_model.specs.Columns.{IsLegalColumn, Rises, has, is_old, loss_of, load, colours_of, size_of, has_barred}
 use Rattle.mill_model.specs.Plans.{is_new}
 use Rattle.mill_model.specs.Limits.{AtMost}
-use Rattle.mill_model.specs.Decisions.{Decision, column_agrees}
+use Rattle.mill_model.specs.declared.ask.Ask.{Ask}
+use Rattle.mill_model.specs.declared.ask.Ask.TheVariants.{Pair, Put}
+use Rattle.mill_model.specs.Decisions.{Decision, IsAsk, column_agrees}
 use Rattle.mill_model.specs.Covers.{Part, times, IsCover}
 use Rattle.mill_model.specs.Shares.{Share, Shown, IsMultiplier, IsShown, part_of}
 use Rattle.cert_view.specs.declared.line.Line.TheVariants as lines
@@ -156,13 +158,22 @@ shares_of_shown m limits path d shares h =
       },
     )
 
+-- a mill with a question has an order, so that its cover has a share
+pub some_share : (m : Mill) (limits : Limits) (path : List Decision) (d : ℕ) (shares : List Share) (ask : Ask) → IsAsk m ask → IsCover m limits path d (map part_of shares) → 0 < length shares
+some_share m limits path d (share ∷ shares) ask asks cover = omega arith
+some_share m limits path d [] ask asks cover = absurd (omega (arith, cover.denominator, cover.orders 0 (some_order ask asks)))
+  where
+    some_order : (a : Ask) → IsAsk m a → 0 < length m.orders
+    some_order (Pair i j) h = omega (arith, h.0, h.1)
+    some_order (Put o s) h = omega (arith, h.0)
+
 -- ---- the lines of shares
 
-module _ (m : Mill) (path : List Decision) (d : ℕ) (shares : List Share) where
-  multiplier_from : (x : ℤ) → IsWithin x → pos 1 ≤ℤ x → IsMultiplier x
-  multiplier_from (pos n) within low = (low, omega (arith, ints, within))
-  multiplier_from (negsuc n) within low = absurd (omega (arith, ints, low))
+pub multiplier_from : (x : ℤ) → IsWithin x → pos 1 ≤ℤ x → IsMultiplier x
+multiplier_from (pos n) within low = (low, omega (arith, ints, within))
+multiplier_from (negsuc n) within low = absurd (omega (arith, ints, low))
 
+module _ (m : Mill) (path : List Decision) (d : ℕ) (shares : List Share) where
   pub new_share_next : (ns : List ℤ) → IsLine (lines.CNew ns) → AllKept (new_share_rules m path d shares ns) → IsNextShare m path d shares (share_of_new ns) × (lines.CNew ns ≡ share_line (share_of_new ns))
   new_share_next [] line kept = absurd kept.0
   new_share_next (x ∷ []) line kept = absurd kept.0
