@@ -8,3 +8,6 @@ pub mod Trees
 pub mod OpenLines
 pub mod Slabs
 pub mod SlabLines
+pub mod PlanLines
+pub mod SumLines
+pub mod Wholes

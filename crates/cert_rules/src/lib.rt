@@ -5,6 +5,8 @@
 //! `Spreads`, then `Turns` (what can stand where) and `Reading` (bytes), and last the laws.
 #![tactic(auto)]
 
+mod laws;
 mod why;
 
+pub use laws::{accepted_exactly, lines_are_read};
 pub use why::Why;
