@@ -11,3 +11,4 @@ pub mod SlabLines
 pub mod PlanLines
 pub mod SumLines
 pub mod Wholes
+pub mod FirstBad

@@ -17,7 +17,7 @@ use Rattle.cert_rules.specs.States.{Wanted, State, branch_or}
 use Rattle.cert_rules.specs.States.Outcome.{Unfinished}
 use Rattle.cert_rules.specs.States.State.{InOpenTree, Ended}
 use Rattle.cert_rules.specs.Turns.{rules_of, next_of, turn_to_ask}
-use Rattle.cert_rules.specs.Laws.{Completes}
+use Rattle.cert_rules.specs.Laws.{Reaches}
 use Rattle.cert_rules.proofs.Steps.{Comes, on}
 use Rattle.cert_rules.proofs.Walks.{lines_of, EndsHere, AsksHere, TreeThen, ToCome, tree_from, tree_goes_on}
 use Rattle.cert_rules.proofs.Asks.{Asks, asks_from, ask_kept, ask_next}
@@ -74,13 +74,6 @@ module _ (m : Mill) (wanted : Wanted) (points : List Sums) where
   begins path (lines.CNew ns ∷ xs) h = absurd h.1.kept.0.0
   begins path (lines.COld ns ∷ xs) h = absurd h.1.kept.0.0
 
-  end_goes_on : (path : List Decision) (e : None) (rest : List Line) → Any e path → Completes m wanted (branch_or done at (next_branch path)) rest → Completes m wanted (at path) (open_line e ∷ rest)
-  end_goes_on path e rest holds h = on m wanted (at path) _ lines.Open rest tt refl h
-
-  ask_goes_on : (path : List Decision) (mark : None) (ask : Ask) (rest : List Line) → IsAsk m ask → IsFresh ask path → AnyMark mark ask path → Completes m wanted (at ((ask, true) ∷ path)) rest → Completes m wanted (at path) (unmarked mark ++ (ask_line ask ∷ rest))
-  ask_goes_on path mark (Pair i j) rest asks fresh right h = on m wanted (at path) _ (ask_line (Pair i j)) rest (ask_kept m at [] path (Pair i j) tt asks fresh) (ask_next m at [] path (Pair i j) (at path)) h
-  ask_goes_on path mark (Put o s) rest asks fresh right h = on m wanted (at path) _ (ask_line (Put o s)) rest (ask_kept m at [] path (Put o s) tt asks fresh) (ask_next m at [] path (Put o s) (at path)) h
-
   -- ---- the lines of an outline
 
   abbrev lines_at : Unmarked None → List Line
@@ -89,13 +82,6 @@ module _ (m : Mill) (wanted : Wanted) (points : List Sums) where
   lines_are_outline : (t : Unmarked None) → lines_at t ≡ map outline_line (outline t)
   lines_are_outline (End e) = refl
   lines_are_outline (Split mark ask y n) = ap (λ xs. ask_line ask ∷ xs) (ap₂ (λ a b. a ++ b) (lines_are_outline y) (lines_are_outline n) ∙ sym (map-append outline_line (outline y) (outline n)))
-
-  abbrev lines_back : Unmarked None → List Line
-  lines_back = lines_of (Completes m wanted) m None None at done open_line unmarked Any AnyMark
-
-  lines_back_are : (t : Unmarked None) → lines_back t ≡ map outline_line (outline t)
-  lines_back_are (End e) = refl
-  lines_back_are (Split mark ask y n) = ap (λ xs. ask_line ask ∷ xs) (ap₂ (λ a b. a ++ b) (lines_back_are y) (lines_back_are n) ∙ sym (map-append outline_line (outline y) (outline n)))
 
   any_marks : (t : Unmarked None) (path : List Decision) → EverySplit AnyMark t path
   any_marks (End e) path = tt
@@ -122,7 +108,22 @@ module _ (m : Mill) (wanted : Wanted) (points : List Sums) where
       found : TreeThen (Comes m wanted) m None None at done open_line unmarked Any AnyMark [] (ToCome (Comes m wanted) m None None at done open_line unmarked Any AnyMark []) xs
       found = tree_from (Comes m wanted) m None None at done open_line unmarked Any AnyMark begins (suc (length xs)) xs [] (omega arith) h
 
-  pub open_tree_completes : (steps : List (Option Ask)) → IsOpenTree m [] steps → Completes m wanted (at []) (map outline_line steps)
-  open_tree_completes steps r =
-      subst (λ ys. Completes m wanted (at []) ys) (append-nil (lines_back r.tree) ∙ lines_back_are r.tree ∙ ap (map outline_line) (sym r.steps_are))
-      (tree_goes_on (Completes m wanted) m None None at done open_line unmarked Any AnyMark (end_goes_on, ask_goes_on) r.tree [] [] r.fresh (any_marks r.tree []) (record { kept = tt; ended = tt }))
+  module _ (Last : State → Type 0) where
+    end_goes_on : (path : List Decision) (e : None) (rest : List Line) → Any e path → Reaches m wanted Last (branch_or done at (next_branch path)) rest → Reaches m wanted Last (at path) (open_line e ∷ rest)
+    end_goes_on path e rest holds h = on m wanted Last (at path) _ lines.Open rest tt refl h
+
+    ask_goes_on : (path : List Decision) (mark : None) (ask : Ask) (rest : List Line) → IsAsk m ask → IsFresh ask path → AnyMark mark ask path → Reaches m wanted Last (at ((ask, true) ∷ path)) rest → Reaches m wanted Last (at path) (unmarked mark ++ (ask_line ask ∷ rest))
+    ask_goes_on path mark (Pair i j) rest asks fresh right h = on m wanted Last (at path) _ (ask_line (Pair i j)) rest (ask_kept m at [] path (Pair i j) tt asks fresh) (ask_next m at [] path (Pair i j) (at path)) h
+    ask_goes_on path mark (Put o s) rest asks fresh right h = on m wanted Last (at path) _ (ask_line (Put o s)) rest (ask_kept m at [] path (Put o s) tt asks fresh) (ask_next m at [] path (Put o s) (at path)) h
+
+    abbrev lines_back : Unmarked None → List Line
+    lines_back = lines_of (Reaches m wanted Last) m None None at done open_line unmarked Any AnyMark
+
+    lines_back_are : (t : Unmarked None) → lines_back t ≡ map outline_line (outline t)
+    lines_back_are (End e) = refl
+    lines_back_are (Split mark ask y n) = ap (λ xs. ask_line ask ∷ xs) (ap₂ (λ a b. a ++ b) (lines_back_are y) (lines_back_are n) ∙ sym (map-append outline_line (outline y) (outline n)))
+
+    pub open_tree_completes : (steps : List (Option Ask)) → IsOpenTree m [] steps → Last done → Reaches m wanted Last (at []) (map outline_line steps)
+    open_tree_completes steps r end =
+        subst (λ ys. Reaches m wanted Last (at []) ys) (append-nil (lines_back r.tree) ∙ lines_back_are r.tree ∙ ap (map outline_line) (sym r.steps_are))
+        (tree_goes_on (Reaches m wanted Last) m None None at done open_line unmarked Any AnyMark (end_goes_on, ask_goes_on) r.tree [] [] r.fresh (any_marks r.tree []) (record { kept = tt; ended = end }))

@@ -21,9 +21,10 @@ use Rattle.cert_rules.specs.States.{Wanted, State, Goal}
 use Rattle.cert_rules.specs.States.Owner.{OfPoint}
 use Rattle.cert_rules.specs.States.Stage.{Begins}
 use Rattle.cert_rules.specs.States.State.{InPlan, InTree}
+use Rattle.cert_rules.specs.Reading.{HasEnded}
 use Rattle.cert_rules.specs.Slabs.{new_slab, old_slab, plan_of, plan_rules, AreAllPlaced}
 use Rattle.cert_rules.specs.Turns.{rules_of, next_of, with_rules, turn_at_start}
-use Rattle.cert_rules.specs.Laws.{Completes}
+use Rattle.cert_rules.specs.Laws.{Reaches, Completes}
 use Rattle.cert_rules.proofs.Steps.{Comes, on, with_from, with_back}
 use Rattle.cert_rules.proofs.Slabs.{IsNextSlab, AreSlabs, nothing, plan_from_slabs, slabs_from_plan}
 use Rattle.cert_rules.proofs.SlabLines.{new_slab_next, old_slab_next, next_new_slab, next_old_slab, old_slab_back}
@@ -128,49 +129,6 @@ module _ (m : Mill) (wanted : Wanted) (version : Version) (before : List Sums) (
   plan_from (lines.CNew ns ∷ xs) slabs good h = plan_ends slabs (lines.CNew ns) xs good h.0 h.1.kept.0 (record { kept = h.1.kept.1; ended = h.1.ended })
   plan_from (lines.COld ns ∷ xs) slabs good h = plan_ends slabs (lines.COld ns) xs good h.0 h.1.kept.0 (record { kept = h.1.kept.1; ended = h.1.ended })
 
-  -- ---- to lines
-
-  tree_begins : (slabs : List Column) (line : Line) (xs : List Line) → AreAllPlaced m slabs → sums_of m (plan_of (length m.orders) slabs) ≡ sums → AllKept (rules_of (turn_at_start m goal version [] line)) → Completes m wanted (next_of in_tree (turn_at_start m goal version [] line)) xs
-      → AllKept (rules_of (with_rules (plan_rules m sums slabs) (turn_at_start m goal version [] line))) × Completes m wanted (next_of (in_plan slabs) (with_rules (plan_rules m sums slabs) (turn_at_start m goal version [] line))) xs
-  tree_begins slabs line xs placed are kept h =
-      let parts = with_back (plan_rules m sums slabs) (turn_at_start m goal version [] line) (placed, (are, tt)) kept in
-      (parts.0, subst (λ s. Completes m wanted s xs) (sym (parts.1 (in_plan slabs) in_tree)) h)
-
-  no_slabs : (v : Version) (ns : List ℤ) → (AllKept (rules_of (turn_at_start m goal v [] (lines.New ns))) → ⊥) × (AllKept (rules_of (turn_at_start m goal v [] (lines.Old ns))) → ⊥)
-  no_slabs One ns = (λ h. h.0, λ h. h.0)
-  no_slabs Two ns = (λ h. h.0, λ h. h.0)
-
-  tree_after : (xs : List Line) (slabs : List Column) → AreAllPlaced m slabs → sums_of m (plan_of (length m.orders) slabs) ≡ sums → Completes m wanted in_tree xs → Completes m wanted (in_plan slabs) xs
-  tree_after [] slabs placed are h = absurd h.ended
-  tree_after (lines.Header ∷ xs) slabs placed are h = let more = tree_begins slabs lines.Header xs placed are h.kept.0 (record { kept = h.kept.1; ended = h.ended }) in record { kept = (more.0, more.1.kept); ended = more.1.ended }
-  tree_after (lines.Header2 ∷ xs) slabs placed are h = let more = tree_begins slabs lines.Header2 xs placed are h.kept.0 (record { kept = h.kept.1; ended = h.ended }) in record { kept = (more.0, more.1.kept); ended = more.1.ended }
-  tree_after (lines.Point ns ∷ xs) slabs placed are h = let more = tree_begins slabs (lines.Point ns) xs placed are h.kept.0 (record { kept = h.kept.1; ended = h.ended }) in record { kept = (more.0, more.1.kept); ended = more.1.ended }
-  tree_after (lines.New ns ∷ xs) slabs placed are h = absurd ((no_slabs version ns).0 h.kept.0)
-  tree_after (lines.Old ns ∷ xs) slabs placed are h = absurd ((no_slabs version ns).1 h.kept.0)
-  tree_after (lines.Pair ns ∷ xs) slabs placed are h = let more = tree_begins slabs (lines.Pair ns) xs placed are h.kept.0 (record { kept = h.kept.1; ended = h.ended }) in record { kept = (more.0, more.1.kept); ended = more.1.ended }
-  tree_after (lines.Put ns ∷ xs) slabs placed are h = let more = tree_begins slabs (lines.Put ns) xs placed are h.kept.0 (record { kept = h.kept.1; ended = h.ended }) in record { kept = (more.0, more.1.kept); ended = more.1.ended }
-  tree_after (lines.Leaf ns ∷ xs) slabs placed are h = let more = tree_begins slabs (lines.Leaf ns) xs placed are h.kept.0 (record { kept = h.kept.1; ended = h.ended }) in record { kept = (more.0, more.1.kept); ended = more.1.ended }
-  tree_after (lines.Done ∷ xs) slabs placed are h = let more = tree_begins slabs lines.Done xs placed are h.kept.0 (record { kept = h.kept.1; ended = h.ended }) in record { kept = (more.0, more.1.kept); ended = more.1.ended }
-  tree_after (lines.Cut ∷ xs) slabs placed are h = let more = tree_begins slabs lines.Cut xs placed are h.kept.0 (record { kept = h.kept.1; ended = h.ended }) in record { kept = (more.0, more.1.kept); ended = more.1.ended }
-  tree_after (lines.Open ∷ xs) slabs placed are h = let more = tree_begins slabs lines.Open xs placed are h.kept.0 (record { kept = h.kept.1; ended = h.ended }) in record { kept = (more.0, more.1.kept); ended = more.1.ended }
-  tree_after (lines.Bare ∷ xs) slabs placed are h = let more = tree_begins slabs lines.Bare xs placed are h.kept.0 (record { kept = h.kept.1; ended = h.ended }) in record { kept = (more.0, more.1.kept); ended = more.1.ended }
-  tree_after (lines.Plain ∷ xs) slabs placed are h = let more = tree_begins slabs lines.Plain xs placed are h.kept.0 (record { kept = h.kept.1; ended = h.ended }) in record { kept = (more.0, more.1.kept); ended = more.1.ended }
-  tree_after (lines.Spread ns ∷ xs) slabs placed are h = let more = tree_begins slabs (lines.Spread ns) xs placed are h.kept.0 (record { kept = h.kept.1; ended = h.ended }) in record { kept = (more.0, more.1.kept); ended = more.1.ended }
-  tree_after (lines.CNew ns ∷ xs) slabs placed are h = let more = tree_begins slabs (lines.CNew ns) xs placed are h.kept.0 (record { kept = h.kept.1; ended = h.ended }) in record { kept = (more.0, more.1.kept); ended = more.1.ended }
-  tree_after (lines.COld ns ∷ xs) slabs placed are h = let more = tree_begins slabs (lines.COld ns) xs placed are h.kept.0 (record { kept = h.kept.1; ended = h.ended }) in record { kept = (more.0, more.1.kept); ended = more.1.ended }
-
-  slab_here : (slabs : List Column) (kind : Kind) (os : List ℕ) (xs : List Line) → IsNextSlab m slabs (record { kind = kind; orders = os }) → Completes m wanted (in_plan (slabs ++ (record { kind = kind; orders = os }) ∷ [])) xs → Completes m wanted (in_plan slabs) (slab_line_on kind os ∷ xs)
-  slab_here slabs (New size) os xs next h =
-      on m wanted (in_plan slabs) _ (slab_line_on (New size) os) xs (next_new_slab m slabs size os next) (ap (λ (ys : List ℕ). in_plan (slabs ++ (record { kind = New size; orders = ys }) ∷ [])) (index_numbers os)) h
-  slab_here slabs (Old s) os xs next h = on m wanted (in_plan slabs) _ (slab_line_on (Old s) os) xs (next_old_slab m slabs s os next) (ap (λ c. in_plan (slabs ++ c ∷ [])) (old_slab_back s os)) h
-
-  plan_goes_on : (more slabs : List Column) (rest : List Line) → AreSlabs m (slabs ++ more) → AreAllPlaced m (slabs ++ more) → sums_of m (plan_of (length m.orders) (slabs ++ more)) ≡ sums → Completes m wanted in_tree rest → Completes m wanted (in_plan slabs) (map slab_line more ++ rest)
-  plan_goes_on [] slabs rest good placed are h = tree_after rest slabs (subst (λ ys. AreAllPlaced m ys) (append-nil slabs) placed) (subst (λ ys. sums_of m (plan_of (length m.orders) ys) ≡ sums) (append-nil slabs) are) h
-  plan_goes_on (c ∷ more) slabs rest good placed are h =
-      let same : slabs ++ (c ∷ more) ≡ (slabs ++ c ∷ []) ++ more = sym (append_assoc slabs (c ∷ []) more) in
-      slab_here slabs c.kind c.orders (map slab_line more ++ rest) (slab_after m slabs more c good)
-      (plan_goes_on more (slabs ++ c ∷ []) rest (subst (λ ys. AreSlabs m ys) same good) (subst (λ ys. AreAllPlaced m ys) same placed) (subst (λ ys. sums_of m (plan_of (length m.orders) ys) ≡ sums) same are) h)
-
   -- ---- plans
 
   -- the lines begin with the slabs of a legal plan in order that has these sums, and the others are its tree and what follows
@@ -189,8 +147,52 @@ module _ (m : Mill) (wanted : Wanted) (version : Version) (before : List Sums) (
       let plan = plan_from_slabs m found.more found.good found.placed in
       record { plan = plan_of (length m.orders) found.more; rest = found.rest; lines_are = found.lines_are ∙ ap (λ ys. map slab_line ys ++ found.rest) (sym plan.2); legal = plan.0; order = plan.1; sums_are = found.sums_are; others = found.others }
 
-  pub plan_completes : (p : Plan) (rest : List Line) → IsLegal m p → IsInOrder p → sums_of m p ≡ sums → Completes m wanted in_tree rest → Completes m wanted (in_plan []) (map slab_line (columns_of p) ++ rest)
-  plan_completes p rest legal order are h =
-      let slabs = slabs_from_plan m p legal order in
-      let same : sums_of m (plan_of (length m.orders) (columns_of p)) ≡ sums_of m p = ap (λ ks. sums_of m (record { kinds = ks; place = [] })) slabs.2 in
-      plan_goes_on (columns_of p) [] rest slabs.0 slabs.1 (same ∙ are) h
+  -- ---- to lines
+
+  module _ (Last : State → Type 0) (final : (state : State) → Last state → HasEnded state) where
+    tree_begins : (slabs : List Column) (line : Line) (xs : List Line) → AreAllPlaced m slabs → sums_of m (plan_of (length m.orders) slabs) ≡ sums → AllKept (rules_of (turn_at_start m goal version [] line)) → Reaches m wanted Last (next_of in_tree (turn_at_start m goal version [] line)) xs
+        → AllKept (rules_of (with_rules (plan_rules m sums slabs) (turn_at_start m goal version [] line))) × Reaches m wanted Last (next_of (in_plan slabs) (with_rules (plan_rules m sums slabs) (turn_at_start m goal version [] line))) xs
+    tree_begins slabs line xs placed are kept h =
+        let parts = with_back (plan_rules m sums slabs) (turn_at_start m goal version [] line) (placed, (are, tt)) kept in
+        (parts.0, subst (λ s. Reaches m wanted Last s xs) (sym (parts.1 (in_plan slabs) in_tree)) h)
+
+    no_slabs : (v : Version) (ns : List ℤ) → (AllKept (rules_of (turn_at_start m goal v [] (lines.New ns))) → ⊥) × (AllKept (rules_of (turn_at_start m goal v [] (lines.Old ns))) → ⊥)
+    no_slabs One ns = (λ h. h.0, λ h. h.0)
+    no_slabs Two ns = (λ h. h.0, λ h. h.0)
+
+    tree_after : (xs : List Line) (slabs : List Column) → AreAllPlaced m slabs → sums_of m (plan_of (length m.orders) slabs) ≡ sums → Reaches m wanted Last in_tree xs → Reaches m wanted Last (in_plan slabs) xs
+    tree_after [] slabs placed are h = absurd (final in_tree h.ended)
+    tree_after (lines.Header ∷ xs) slabs placed are h = let more = tree_begins slabs lines.Header xs placed are h.kept.0 (record { kept = h.kept.1; ended = h.ended }) in record { kept = (more.0, more.1.kept); ended = more.1.ended }
+    tree_after (lines.Header2 ∷ xs) slabs placed are h = let more = tree_begins slabs lines.Header2 xs placed are h.kept.0 (record { kept = h.kept.1; ended = h.ended }) in record { kept = (more.0, more.1.kept); ended = more.1.ended }
+    tree_after (lines.Point ns ∷ xs) slabs placed are h = let more = tree_begins slabs (lines.Point ns) xs placed are h.kept.0 (record { kept = h.kept.1; ended = h.ended }) in record { kept = (more.0, more.1.kept); ended = more.1.ended }
+    tree_after (lines.New ns ∷ xs) slabs placed are h = absurd ((no_slabs version ns).0 h.kept.0)
+    tree_after (lines.Old ns ∷ xs) slabs placed are h = absurd ((no_slabs version ns).1 h.kept.0)
+    tree_after (lines.Pair ns ∷ xs) slabs placed are h = let more = tree_begins slabs (lines.Pair ns) xs placed are h.kept.0 (record { kept = h.kept.1; ended = h.ended }) in record { kept = (more.0, more.1.kept); ended = more.1.ended }
+    tree_after (lines.Put ns ∷ xs) slabs placed are h = let more = tree_begins slabs (lines.Put ns) xs placed are h.kept.0 (record { kept = h.kept.1; ended = h.ended }) in record { kept = (more.0, more.1.kept); ended = more.1.ended }
+    tree_after (lines.Leaf ns ∷ xs) slabs placed are h = let more = tree_begins slabs (lines.Leaf ns) xs placed are h.kept.0 (record { kept = h.kept.1; ended = h.ended }) in record { kept = (more.0, more.1.kept); ended = more.1.ended }
+    tree_after (lines.Done ∷ xs) slabs placed are h = let more = tree_begins slabs lines.Done xs placed are h.kept.0 (record { kept = h.kept.1; ended = h.ended }) in record { kept = (more.0, more.1.kept); ended = more.1.ended }
+    tree_after (lines.Cut ∷ xs) slabs placed are h = let more = tree_begins slabs lines.Cut xs placed are h.kept.0 (record { kept = h.kept.1; ended = h.ended }) in record { kept = (more.0, more.1.kept); ended = more.1.ended }
+    tree_after (lines.Open ∷ xs) slabs placed are h = let more = tree_begins slabs lines.Open xs placed are h.kept.0 (record { kept = h.kept.1; ended = h.ended }) in record { kept = (more.0, more.1.kept); ended = more.1.ended }
+    tree_after (lines.Bare ∷ xs) slabs placed are h = let more = tree_begins slabs lines.Bare xs placed are h.kept.0 (record { kept = h.kept.1; ended = h.ended }) in record { kept = (more.0, more.1.kept); ended = more.1.ended }
+    tree_after (lines.Plain ∷ xs) slabs placed are h = let more = tree_begins slabs lines.Plain xs placed are h.kept.0 (record { kept = h.kept.1; ended = h.ended }) in record { kept = (more.0, more.1.kept); ended = more.1.ended }
+    tree_after (lines.Spread ns ∷ xs) slabs placed are h = let more = tree_begins slabs (lines.Spread ns) xs placed are h.kept.0 (record { kept = h.kept.1; ended = h.ended }) in record { kept = (more.0, more.1.kept); ended = more.1.ended }
+    tree_after (lines.CNew ns ∷ xs) slabs placed are h = let more = tree_begins slabs (lines.CNew ns) xs placed are h.kept.0 (record { kept = h.kept.1; ended = h.ended }) in record { kept = (more.0, more.1.kept); ended = more.1.ended }
+    tree_after (lines.COld ns ∷ xs) slabs placed are h = let more = tree_begins slabs (lines.COld ns) xs placed are h.kept.0 (record { kept = h.kept.1; ended = h.ended }) in record { kept = (more.0, more.1.kept); ended = more.1.ended }
+
+    slab_here : (slabs : List Column) (kind : Kind) (os : List ℕ) (xs : List Line) → IsNextSlab m slabs (record { kind = kind; orders = os }) → Reaches m wanted Last (in_plan (slabs ++ (record { kind = kind; orders = os }) ∷ [])) xs → Reaches m wanted Last (in_plan slabs) (slab_line_on kind os ∷ xs)
+    slab_here slabs (New size) os xs next h =
+        on m wanted Last (in_plan slabs) _ (slab_line_on (New size) os) xs (next_new_slab m slabs size os next) (ap (λ (ys : List ℕ). in_plan (slabs ++ (record { kind = New size; orders = ys }) ∷ [])) (index_numbers os)) h
+    slab_here slabs (Old s) os xs next h = on m wanted Last (in_plan slabs) _ (slab_line_on (Old s) os) xs (next_old_slab m slabs s os next) (ap (λ c. in_plan (slabs ++ c ∷ [])) (old_slab_back s os)) h
+
+    plan_goes_on : (more slabs : List Column) (rest : List Line) → AreSlabs m (slabs ++ more) → AreAllPlaced m (slabs ++ more) → sums_of m (plan_of (length m.orders) (slabs ++ more)) ≡ sums → Reaches m wanted Last in_tree rest → Reaches m wanted Last (in_plan slabs) (map slab_line more ++ rest)
+    plan_goes_on [] slabs rest good placed are h = tree_after rest slabs (subst (λ ys. AreAllPlaced m ys) (append-nil slabs) placed) (subst (λ ys. sums_of m (plan_of (length m.orders) ys) ≡ sums) (append-nil slabs) are) h
+    plan_goes_on (c ∷ more) slabs rest good placed are h =
+        let same : slabs ++ (c ∷ more) ≡ (slabs ++ c ∷ []) ++ more = sym (append_assoc slabs (c ∷ []) more) in
+        slab_here slabs c.kind c.orders (map slab_line more ++ rest) (slab_after m slabs more c good)
+        (plan_goes_on more (slabs ++ c ∷ []) rest (subst (λ ys. AreSlabs m ys) same good) (subst (λ ys. AreAllPlaced m ys) same placed) (subst (λ ys. sums_of m (plan_of (length m.orders) ys) ≡ sums) same are) h)
+
+    pub plan_completes : (p : Plan) (rest : List Line) → IsLegal m p → IsInOrder p → sums_of m p ≡ sums → Reaches m wanted Last in_tree rest → Reaches m wanted Last (in_plan []) (map slab_line (columns_of p) ++ rest)
+    plan_completes p rest legal order are h =
+        let slabs = slabs_from_plan m p legal order in
+        let same : sums_of m (plan_of (length m.orders) (columns_of p)) ≡ sums_of m p = ap (λ ks. sums_of m (record { kinds = ks; place = [] })) slabs.2 in
+        plan_goes_on (columns_of p) [] rest slabs.0 slabs.1 (same ∙ are) h

@@ -8,7 +8,7 @@ use Rattle.cert_rules.specs.Rules.{Rule, AllKept}
 use Rattle.cert_rules.specs.States.{Wanted, State}
 use Rattle.cert_rules.specs.Turns.{Turn, rules_of, next_of, with_rules, line_rules, line_next}
 use Rattle.cert_rules.specs.Turns.Turn.{Refused, Taken}
-use Rattle.cert_rules.specs.Laws.{Completes}
+use Rattle.cert_rules.specs.Laws.{Reaches, Completes}
 
 pub kept_split : (xs ys : List Rule) → AllKept (xs ++ ys) → AllKept xs × AllKept ys
 kept_split [] ys h = (tt, h)
@@ -35,10 +35,7 @@ module _ (m : Mill) (wanted : Wanted) where
   abbrev pub Comes : State → List Line → Type 0
   Comes state xs = AllByRecursion IsReadable xs × Completes m wanted state xs
 
-  pub on : (state next : State) (line : Line) (rest : List Line) → AllKept (line_rules m wanted state line) → line_next m wanted state line ≡ next → Completes m wanted next rest → Completes m wanted state (line ∷ rest)
-  on state next line rest kept e h =
-      let here : Completes m wanted (line_next m wanted state line) rest = subst (λ s. Completes m wanted s rest) (sym e) h in
+  pub on : (Last : State → Type 0) (state next : State) (line : Line) (rest : List Line) → AllKept (line_rules m wanted state line) → line_next m wanted state line ≡ next → Reaches m wanted Last next rest → Reaches m wanted Last state (line ∷ rest)
+  on Last state next line rest kept e h =
+      let here : Reaches m wanted Last (line_next m wanted state line) rest = subst (λ s. Reaches m wanted Last s rest) (sym e) h in
       record { kept = (kept, here.kept); ended = here.ended }
-
-  pub comes_on : (state next : State) (line : Line) (rest : List Line) → line_next m wanted state line ≡ next → Comes state (line ∷ rest) → Comes next rest
-  comes_on state next line rest e h = subst (λ s. Comes s rest) e (h.0.1, record { kept = h.1.kept.1; ended = h.1.ended })

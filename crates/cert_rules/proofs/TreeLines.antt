@@ -30,7 +30,7 @@ use Rattle.cert_rules.specs.States.Stage.{Begins, Marked, InSpread}
 use Rattle.cert_rules.specs.States.State.{InTree}
 use Rattle.cert_rules.specs.Spreads.{share_of_new, share_of_old, cover_rules}
 use Rattle.cert_rules.specs.Turns.{rules_of, next_of, turn_to_ask, turn_after_shares}
-use Rattle.cert_rules.specs.Laws.{Completes}
+use Rattle.cert_rules.specs.Laws.{Reaches}
 use Rattle.cert_rules.proofs.Steps.{Comes, on}
 use Rattle.cert_rules.proofs.Walks.{EndsHere, AsksHere}
 use Rattle.cert_rules.proofs.Asks.{Asks, asks_from, ask_kept, ask_next}
@@ -220,55 +220,56 @@ module _ (m : Mill) (wanted : Wanted) (owner : Owner) (points : List Sums) where
 
   -- ---- to lines
 
-  pub leaf_goes_on : (version : Version) (path : List Decision) (p : Prices) (rest : List Line) → HoldsAt version p path → Completes m wanted (branch_or (after_tree (goal version)) (at version) (next_branch path)) rest → Completes m wanted (at version path) (leaf_line p ∷ rest)
-  leaf_goes_on One path p rest holds h = on m wanted (at One path) _ (leaf_line p) rest (refuting_leaf m (tree_limits (goal One)) path p holds) refl h
-  leaf_goes_on Two path p rest holds h = on m wanted (at Two path) _ (leaf_line p) rest (refuting_leaf m (tree_limits (goal Two)) path p holds) refl h
+  module _ (Last : State → Type 0) where
+    pub leaf_goes_on : (version : Version) (path : List Decision) (p : Prices) (rest : List Line) → HoldsAt version p path → Reaches m wanted Last (branch_or (after_tree (goal version)) (at version) (next_branch path)) rest → Reaches m wanted Last (at version path) (leaf_line p ∷ rest)
+    leaf_goes_on One path p rest holds h = on m wanted Last (at One path) _ (leaf_line p) rest (refuting_leaf m (tree_limits (goal One)) path p holds) refl h
+    leaf_goes_on Two path p rest holds h = on m wanted Last (at Two path) _ (leaf_line p) rest (refuting_leaf m (tree_limits (goal Two)) path p holds) refl h
 
-  one_goes_on : (path : List Decision) (ask : Ask) (rest : List Line) → IsAsk m ask → IsFresh ask path → Completes m wanted (at One ((ask, true) ∷ path)) rest → Completes m wanted (at One path) (ask_line ask ∷ rest)
-  one_goes_on path (Pair i j) rest asks fresh h = on m wanted (at One path) _ (ask_line (Pair i j)) rest (ask_kept m (at One) [] path (Pair i j) tt asks fresh) (ask_next m (at One) [] path (Pair i j) (at One path)) h
-  one_goes_on path (Put o s) rest asks fresh h = on m wanted (at One path) _ (ask_line (Put o s)) rest (ask_kept m (at One) [] path (Put o s) tt asks fresh) (ask_next m (at One) [] path (Put o s) (at One path)) h
+    one_goes_on : (path : List Decision) (ask : Ask) (rest : List Line) → IsAsk m ask → IsFresh ask path → Reaches m wanted Last (at One ((ask, true) ∷ path)) rest → Reaches m wanted Last (at One path) (ask_line ask ∷ rest)
+    one_goes_on path (Pair i j) rest asks fresh h = on m wanted Last (at One path) _ (ask_line (Pair i j)) rest (ask_kept m (at One) [] path (Pair i j) tt asks fresh) (ask_next m (at One) [] path (Pair i j) (at One path)) h
+    one_goes_on path (Put o s) rest asks fresh h = on m wanted Last (at One path) _ (ask_line (Put o s)) rest (ask_kept m (at One) [] path (Put o s) tt asks fresh) (ask_next m (at One) [] path (Put o s) (at One path)) h
 
-  marked_goes_on : (path : List Decision) (ask : Ask) (rest : List Line) → IsAsk m ask → IsFresh ask path → Completes m wanted (at Two ((ask, true) ∷ path)) rest → Completes m wanted (InTree (goal Two) Marked path) (ask_line ask ∷ rest)
-  marked_goes_on path ask rest asks fresh h =
-      on m wanted (InTree (goal Two) Marked path) _ (ask_line ask) rest (ask_kept m (at Two) [] path ask tt asks fresh) (ask_next m (at Two) [] path ask (InTree (goal Two) Marked path)) h
+    marked_goes_on : (path : List Decision) (ask : Ask) (rest : List Line) → IsAsk m ask → IsFresh ask path → Reaches m wanted Last (at Two ((ask, true) ∷ path)) rest → Reaches m wanted Last (InTree (goal Two) Marked path) (ask_line ask ∷ rest)
+    marked_goes_on path ask rest asks fresh h =
+        on m wanted Last (InTree (goal Two) Marked path) _ (ask_line ask) rest (ask_kept m (at Two) [] path ask tt asks fresh) (ask_next m (at Two) [] path ask (InTree (goal Two) Marked path)) h
 
-  module _ (d : ℤ) (path : List Decision) (ask : Ask) (rest : List Line) (asks : IsAsk m ask) (fresh : IsFresh ask path) (after : Completes m wanted (at Two ((ask, true) ∷ path)) rest) where
-    abbrev spread : List Share → State
-    spread shares = InTree (goal Two) (InSpread d shares) path
+    module _ (d : ℤ) (path : List Decision) (ask : Ask) (rest : List Line) (asks : IsAsk m ask) (fresh : IsFresh ask path) (after : Reaches m wanted Last (at Two ((ask, true) ∷ path)) rest) where
+      abbrev spread : List Share → State
+      spread shares = InTree (goal Two) (InSpread d shares) path
 
-    closing : (share : Share) (shares : List Share) (a : Ask) → a ≡ ask → Closes m (tree_limits (goal Two)) (unsigned_abs d) (share ∷ shares) → IsAsk m a → IsFresh a path → Completes m wanted (at Two ((a, true) ∷ path)) rest → Completes m wanted (spread (share ∷ shares)) (ask_line a ∷ rest)
-    closing share shares (Pair i j) e h is new go =
-        let before : List Rule = cover_rules m (tree_limits (goal Two)) (unsigned_abs d) (share ∷ shares) in
-        on m wanted (spread (share ∷ shares)) _ (ask_line (Pair i j)) rest (ask_kept m (at Two) before path (Pair i j) (h.cover, (h.loss, (h.count, tt))) is new) (ask_next m (at Two) before path (Pair i j) (spread (share ∷ shares))) go
-    closing share shares (Put o s) e h is new go =
-        let before : List Rule = cover_rules m (tree_limits (goal Two)) (unsigned_abs d) (share ∷ shares) in
-        on m wanted (spread (share ∷ shares)) _ (ask_line (Put o s)) rest (ask_kept m (at Two) before path (Put o s) (h.cover, (h.loss, (h.count, tt))) is new) (ask_next m (at Two) before path (Put o s) (spread (share ∷ shares))) go
+      closing : (share : Share) (shares : List Share) (a : Ask) → a ≡ ask → Closes m (tree_limits (goal Two)) (unsigned_abs d) (share ∷ shares) → IsAsk m a → IsFresh a path → Reaches m wanted Last (at Two ((a, true) ∷ path)) rest → Reaches m wanted Last (spread (share ∷ shares)) (ask_line a ∷ rest)
+      closing share shares (Pair i j) e h is new go =
+          let before : List Rule = cover_rules m (tree_limits (goal Two)) (unsigned_abs d) (share ∷ shares) in
+          on m wanted Last (spread (share ∷ shares)) _ (ask_line (Pair i j)) rest (ask_kept m (at Two) before path (Pair i j) (h.cover, (h.loss, (h.count, tt))) is new) (ask_next m (at Two) before path (Pair i j) (spread (share ∷ shares))) go
+      closing share shares (Put o s) e h is new go =
+          let before : List Rule = cover_rules m (tree_limits (goal Two)) (unsigned_abs d) (share ∷ shares) in
+          on m wanted Last (spread (share ∷ shares)) _ (ask_line (Put o s)) rest (ask_kept m (at Two) before path (Put o s) (h.cover, (h.loss, (h.count, tt))) is new) (ask_next m (at Two) before path (Put o s) (spread (share ∷ shares))) go
 
-    close_goes_on : (shares : List Share) → 0 < length shares → Closes m (tree_limits (goal Two)) (unsigned_abs d) shares → Completes m wanted (spread shares) (ask_line ask ∷ rest)
-    close_goes_on [] some h = absurd (omega (arith, some))
-    close_goes_on (share ∷ shares) some h = closing share shares ask refl h asks fresh after
+      close_goes_on : (shares : List Share) → 0 < length shares → Closes m (tree_limits (goal Two)) (unsigned_abs d) shares → Reaches m wanted Last (spread shares) (ask_line ask ∷ rest)
+      close_goes_on [] some h = absurd (omega (arith, some))
+      close_goes_on (share ∷ shares) some h = closing share shares ask refl h asks fresh after
 
-    share_goes_on : (shares : List Share) (x : ℤ) (kind : Kind) (os : List ℕ) (xs : List Line) → IsNextShare m path (unsigned_abs d) shares (record { times = x; kind = kind; orders = os }) → Completes m wanted (spread (shares ++ (record { times = x; kind = kind; orders = os }) ∷ [])) xs → Completes m wanted (spread shares) (share_line_on x kind os ∷ xs)
-    share_goes_on shares x (New size) os xs next h =
-        on m wanted (spread shares) _ (share_line_on x (New size) os) xs (new_share_kept m path (unsigned_abs d) shares x size os next) (ap (λ z. spread (shares ++ z ∷ [])) (new_share_back x size os)) h
-    share_goes_on shares x (Old s) os xs next h =
-        on m wanted (spread shares) _ (share_line_on x (Old s) os) xs (old_share_kept m path (unsigned_abs d) shares x s os next) (ap (λ z. spread (shares ++ z ∷ [])) (old_share_back x s os)) h
+      share_goes_on : (shares : List Share) (x : ℤ) (kind : Kind) (os : List ℕ) (xs : List Line) → IsNextShare m path (unsigned_abs d) shares (record { times = x; kind = kind; orders = os }) → Reaches m wanted Last (spread (shares ++ (record { times = x; kind = kind; orders = os }) ∷ [])) xs → Reaches m wanted Last (spread shares) (share_line_on x kind os ∷ xs)
+      share_goes_on shares x (New size) os xs next h =
+          on m wanted Last (spread shares) _ (share_line_on x (New size) os) xs (new_share_kept m path (unsigned_abs d) shares x size os next) (ap (λ z. spread (shares ++ z ∷ [])) (new_share_back x size os)) h
+      share_goes_on shares x (Old s) os xs next h =
+          on m wanted Last (spread shares) _ (share_line_on x (Old s) os) xs (old_share_kept m path (unsigned_abs d) shares x s os next) (ap (λ z. spread (shares ++ z ∷ [])) (old_share_back x s os)) h
 
-    shares_go_on : (more shares : List Share) → AreShares m path (unsigned_abs d) shares more → 0 < length (shares ++ more) → Closes m (tree_limits (goal Two)) (unsigned_abs d) (shares ++ more) → Completes m wanted (spread shares) (map share_line more ++ (ask_line ask ∷ rest))
-    shares_go_on [] shares good some h = close_goes_on shares (subst (λ zs. 0 < length zs) (append-nil shares) some) (subst (λ zs. Closes m (tree_limits (goal Two)) (unsigned_abs d) zs) (append-nil shares) h)
-    shares_go_on (share ∷ more) shares good some h =
-        let same : shares ++ (share ∷ more) ≡ (shares ++ share ∷ []) ++ more = sym (append_assoc shares (share ∷ []) more) in
-        share_goes_on shares share.times share.kind share.orders (map share_line more ++ (ask_line ask ∷ rest)) good.0
-        (shares_go_on more (shares ++ share ∷ []) good.1 (subst (λ zs. 0 < length zs) same some) (subst (λ zs. Closes m (tree_limits (goal Two)) (unsigned_abs d) zs) same h))
+      shares_go_on : (more shares : List Share) → AreShares m path (unsigned_abs d) shares more → 0 < length (shares ++ more) → Closes m (tree_limits (goal Two)) (unsigned_abs d) (shares ++ more) → Reaches m wanted Last (spread shares) (map share_line more ++ (ask_line ask ∷ rest))
+      shares_go_on [] shares good some h = close_goes_on shares (subst (λ zs. 0 < length zs) (append-nil shares) some) (subst (λ zs. Closes m (tree_limits (goal Two)) (unsigned_abs d) zs) (append-nil shares) h)
+      shares_go_on (share ∷ more) shares good some h =
+          let same : shares ++ (share ∷ more) ≡ (shares ++ share ∷ []) ++ more = sym (append_assoc shares (share ∷ []) more) in
+          share_goes_on shares share.times share.kind share.orders (map share_line more ++ (ask_line ask ∷ rest)) good.0
+          (shares_go_on more (shares ++ share ∷ []) good.1 (subst (λ zs. 0 < length zs) same some) (subst (λ zs. Closes m (tree_limits (goal Two)) (unsigned_abs d) zs) same h))
 
-  spread_goes_on : (d : ℤ) (shares : List Share) (path : List Decision) (ask : Ask) (rest : List Line) → IsAsk m ask → IsFresh ask path → IsShown m (tree_limits (goal Two)) path (record { d = d; shares = shares }) → Completes m wanted (at Two ((ask, true) ∷ path)) rest → Completes m wanted (at Two path) (lines.Spread (d ∷ []) ∷ (map share_line shares ++ (ask_line ask ∷ rest)))
-  spread_goes_on d shares path ask rest asks fresh shown h =
-      let parts = shares_of_shown m (tree_limits (goal Two)) path d shares shown in
-      on m wanted (at Two path) (InTree (goal Two) (InSpread d []) path) (lines.Spread (d ∷ [])) (map share_line shares ++ (ask_line ask ∷ rest)) (shown.denominator.0, tt) refl
-      (shares_go_on d path ask rest asks fresh h shares [] parts.0 (some_share m (tree_limits (goal Two)) path (unsigned_abs d) shares ask asks shown.covers) parts.1)
+    spread_goes_on : (d : ℤ) (shares : List Share) (path : List Decision) (ask : Ask) (rest : List Line) → IsAsk m ask → IsFresh ask path → IsShown m (tree_limits (goal Two)) path (record { d = d; shares = shares }) → Reaches m wanted Last (at Two ((ask, true) ∷ path)) rest → Reaches m wanted Last (at Two path) (lines.Spread (d ∷ []) ∷ (map share_line shares ++ (ask_line ask ∷ rest)))
+    spread_goes_on d shares path ask rest asks fresh shown h =
+        let parts = shares_of_shown m (tree_limits (goal Two)) path d shares shown in
+        on m wanted Last (at Two path) (InTree (goal Two) (InSpread d []) path) (lines.Spread (d ∷ [])) (map share_line shares ++ (ask_line ask ∷ rest)) (shown.denominator.0, tt) refl
+        (shares_go_on d path ask rest asks fresh h shares [] parts.0 (some_share m (tree_limits (goal Two)) path (unsigned_abs d) shares ask asks shown.covers) parts.1)
 
-  pub ask_goes_on : (version : Version) (path : List Decision) (mark : Mark) (ask : Ask) (rest : List Line) → IsAsk m ask → IsFresh ask path → RightAt version mark ask path → Completes m wanted (at version ((ask, true) ∷ path)) rest → Completes m wanted (at version path) (mark_lines version mark ++ (ask_line ask ∷ rest))
-  ask_goes_on One path mark ask rest asks fresh right h = one_goes_on path ask rest asks fresh h
-  ask_goes_on Two path (marks.Spread shown) ask rest asks fresh right h = spread_goes_on shown.d shown.shares path ask rest asks fresh right h
-  ask_goes_on Two path marks.Bare ask rest asks fresh right h = on m wanted (at Two path) (InTree (goal Two) Marked path) lines.Bare (ask_line ask ∷ rest) tt refl (marked_goes_on path ask rest asks fresh h)
-  ask_goes_on Two path marks.Plain ask rest asks fresh right h = on m wanted (at Two path) (InTree (goal Two) Marked path) lines.Plain (ask_line ask ∷ rest) tt refl (marked_goes_on path ask rest asks fresh h)
+    pub ask_goes_on : (version : Version) (path : List Decision) (mark : Mark) (ask : Ask) (rest : List Line) → IsAsk m ask → IsFresh ask path → RightAt version mark ask path → Reaches m wanted Last (at version ((ask, true) ∷ path)) rest → Reaches m wanted Last (at version path) (mark_lines version mark ++ (ask_line ask ∷ rest))
+    ask_goes_on One path mark ask rest asks fresh right h = one_goes_on path ask rest asks fresh h
+    ask_goes_on Two path (marks.Spread shown) ask rest asks fresh right h = spread_goes_on shown.d shown.shares path ask rest asks fresh right h
+    ask_goes_on Two path marks.Bare ask rest asks fresh right h = on m wanted Last (at Two path) (InTree (goal Two) Marked path) lines.Bare (ask_line ask ∷ rest) tt refl (marked_goes_on path ask rest asks fresh h)
+    ask_goes_on Two path marks.Plain ask rest asks fresh right h = on m wanted Last (at Two path) (InTree (goal Two) Marked path) lines.Plain (ask_line ask ∷ rest) tt refl (marked_goes_on path ask rest asks fresh h)

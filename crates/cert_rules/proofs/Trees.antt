@@ -17,7 +17,7 @@ use Rattle.cert_text.specs.Certificates.{AreMarksOf}
 use Rattle.cert_text.specs.Lines.{ask_line, leaf_line, mark_lines, marked_lines, tree_lines}
 use Rattle.cert_text.proofs.Trees.{tree_is}
 use Rattle.cert_rules.specs.States.{Wanted, Owner, Goal, State, tree_limits, after_tree}
-use Rattle.cert_rules.specs.Laws.{Completes}
+use Rattle.cert_rules.specs.Laws.{Reaches}
 use Rattle.cert_rules.proofs.Steps.{Comes}
 use Rattle.cert_rules.proofs.Walks.{lines_of, TreeThen, ToCome, tree_from, tree_goes_on}
 use Rattle.cert_rules.proofs.TreeLines.{goal, at, HoldsAt, MayMark, RightAt, tree_begins, leaf_goes_on, ask_goes_on}
@@ -59,14 +59,6 @@ module _ (m : Mill) (wanted : Wanted) (owner : Owner) (points : List Sums) where
   lines_are_marked version (End p) = refl
   lines_are_marked version (Split mark ask y n) = ap₂ (λ a b. mark_lines version mark ++ (ask_line ask ∷ (a ++ b))) (lines_are_marked version y) (lines_are_marked version n)
 
-  -- the same lines, for what is to be completed
-  abbrev lines_back : Version → Tree Mark Prices → List Line
-  lines_back version = lines_of (Completes m wanted) m Mark Prices (at m wanted owner points version) (after_tree (goal m wanted owner points version)) leaf_line (mark_lines version) (HoldsAt m wanted owner points version) (RightAt m wanted owner points version)
-
-  lines_back_are : (version : Version) (t : Tree Mark Prices) → lines_back version t ≡ marked_lines version t
-  lines_back_are version (End p) = refl
-  lines_back_are version (Split mark ask y n) = ap₂ (λ a b. mark_lines version mark ++ (ask_line ask ∷ (a ++ b))) (lines_back_are version y) (lines_back_are version n)
-
   -- the lines begin with those of a tree that refutes, and the others go on after it
   pub record BeginsWithTree (version : Version) (xs : List Line) : Type 0 where
     pub steps : MarkedSteps
@@ -98,9 +90,18 @@ module _ (m : Mill) (wanted : Wanted) (owner : Owner) (points : List Sums) where
       refutation : IsMarkedRefutation m (tree_limits (goal m wanted owner points version)) [] steps
       refutation = record { tree = found.tree; steps_are = refl; marks_are = refl; refutes = found.holds; right = rights version found.tree [] found.right }
 
-  pub tree_completes : (version : Version) (steps : MarkedSteps) (rest : List Line) → IsMarkedRefutation m (tree_limits (goal m wanted owner points version)) [] steps → AreMarksOf version steps.marks
-      → Completes m wanted (after_tree (goal m wanted owner points version)) rest → Completes m wanted (at m wanted owner points version []) (tree_lines version steps ++ rest)
-  tree_completes version steps rest r of h =
-      subst (λ ys. Completes m wanted (at m wanted owner points version []) (ys ++ rest)) (lines_back_are version r.tree ∙ sym (tree_is m version (tree_limits (goal m wanted owner points version)) steps r))
-      (tree_goes_on (Completes m wanted) m Mark Prices (at m wanted owner points version) (after_tree (goal m wanted owner points version)) leaf_line (mark_lines version) (HoldsAt m wanted owner points version) (RightAt m wanted owner points version)
-      (leaf_goes_on m wanted owner points version, ask_goes_on m wanted owner points version) r.tree [] rest r.refutes (right_back version r.tree [] r.right (subst (AreMarksOf version) r.marks_are of)) h)
+  module _ (Last : State → Type 0) where
+    -- the same lines, for what is to be completed
+    abbrev lines_back : Version → Tree Mark Prices → List Line
+    lines_back version = lines_of (Reaches m wanted Last) m Mark Prices (at m wanted owner points version) (after_tree (goal m wanted owner points version)) leaf_line (mark_lines version) (HoldsAt m wanted owner points version) (RightAt m wanted owner points version)
+
+    lines_back_are : (version : Version) (t : Tree Mark Prices) → lines_back version t ≡ marked_lines version t
+    lines_back_are version (End p) = refl
+    lines_back_are version (Split mark ask y n) = ap₂ (λ a b. mark_lines version mark ++ (ask_line ask ∷ (a ++ b))) (lines_back_are version y) (lines_back_are version n)
+
+    pub tree_completes : (version : Version) (steps : MarkedSteps) (rest : List Line) → IsMarkedRefutation m (tree_limits (goal m wanted owner points version)) [] steps → AreMarksOf version steps.marks
+        → Reaches m wanted Last (after_tree (goal m wanted owner points version)) rest → Reaches m wanted Last (at m wanted owner points version []) (tree_lines version steps ++ rest)
+    tree_completes version steps rest r of h =
+        subst (λ ys. Reaches m wanted Last (at m wanted owner points version []) (ys ++ rest)) (lines_back_are version r.tree ∙ sym (tree_is m version (tree_limits (goal m wanted owner points version)) steps r))
+        (tree_goes_on (Reaches m wanted Last) m Mark Prices (at m wanted owner points version) (after_tree (goal m wanted owner points version)) leaf_line (mark_lines version) (HoldsAt m wanted owner points version) (RightAt m wanted owner points version)
+        (leaf_goes_on m wanted owner points Last version, ask_goes_on m wanted owner points Last version) r.tree [] rest r.refutes (right_back version r.tree [] r.right (subst (AreMarksOf version) r.marks_are of)) h)

@@ -1,6 +1,7 @@
 -- Whole texts: points, and how they end.
-use Rattle.std.proofs.Common.{◌≡◌, ℕ, zero, suc, ◌<◌, ◌≤◌, List, [], ◌∷◌, ◌++◌, map, length, Option, Some, None, refl, sym, ap, ap₂, ◌∙◌, subst, arith, append_assoc, append-nil, length-append}
+use Rattle.std.proofs.Common.{◌≡◌, ℕ, zero, suc, ◌<◌, ◌≤◌, List, [], ◌∷◌, ◌++◌, map, length, reverse, Option, Some, None, refl, sym, ap, ap₂, ◌∙◌, subst, arith, append_assoc, append-nil, length-append}
 use Rattle.std.specs.List.{AllByRecursion, flat_map}
+use Rattle.std.proofs.lemmas.List.{reverse-append}
 use Rattle.mill_model.specs.declared.ask.Ask.{Ask}
 use Rattle.mill_model.specs.declared.sums.Sums.{Sums}
 use Rattle.mill_model.specs.declared.version.Version.{Version}
@@ -8,7 +9,7 @@ use Rattle.mill_model.specs.declared.version.Version.TheVariants.{One, Two}
 use Rattle.mill_model.specs.Mill.{Mill, IsInLimits}
 use Rattle.mill_model.specs.Trees.{IsOpenTree}
 use Rattle.mill_model.specs.Marks.{MarkedSteps, IsMarkedRefutation}
-use Rattle.mill_model.specs.Fronts.{Point, IsGoodPoint, IsGoodFrom, below, count_before, last_sums}
+use Rattle.mill_model.specs.Fronts.{Point, IsGoodPoint, IsGoodFrom, below, count_before, last_sums, sums_list}
 use Rattle.cert_view.specs.declared.line.Line.{Line}
 use Rattle.cert_view.specs.declared.line.Line.TheVariants as lines
 use Rattle.cert_text.specs.Certificates.{Ending, Certificate, IsGood, IsGoodEnded, AreMarksOf, last_tree, finished_trees}
@@ -22,8 +23,10 @@ use Rattle.cert_rules.specs.States.Owner.{OfPoint, OfRest}
 use Rattle.cert_rules.specs.States.Outcome.{Proved, Unfinished}
 use Rattle.cert_rules.specs.States.Stage.{Begins}
 use Rattle.cert_rules.specs.States.State.{Begin, BetweenPoints, InPlan, InTree, InOpenTree, Ended}
+use Rattle.cert_rules.specs.Reading.{HasEnded}
+use Rattle.cert_rules.specs.Turns.{after}
 use Rattle.cert_rules.specs.Slabs.{sums_of_line}
-use Rattle.cert_rules.specs.Laws.{Completes, MayEnd, IsWanted, LinesAreRead, AcceptedExactly}
+use Rattle.cert_rules.specs.Laws.{Reaches, Completes, MayEnd, IsWanted, LinesAreRead, AcceptedExactly, EndsHaveThePoints, outcome_of}
 use Rattle.cert_rules.proofs.Steps.{Comes, on}
 use Rattle.cert_rules.proofs.Trees.{BeginsWithTree, tree_read, tree_completes}
 use Rattle.cert_rules.proofs.OpenLines.{IsOpenTreeText, open_tree_read, open_tree_completes}
@@ -51,6 +54,11 @@ record Tail (m : Mill) (wanted : Wanted) (version : Version) (points : List Sums
   ends : EndsWell m (last_sums (latest points) more) ending
   marks : HaveMarks version (map (λ point. point.steps) more ++ last_tree ending)
   may : MayEnd wanted ending
+
+-- the sums of points after those so far
+abbrev latest_first : List Point → List Sums → List Sums
+latest_first [] points = points
+latest_first (point ∷ ps) points = latest_first ps (point.sums ∷ points)
 
 -- ---- from lines to a certificate
 
@@ -119,30 +127,28 @@ module _ (m : Mill) where
 
   -- ---- from a certificate to its lines
 
-  ended_here : (wanted : Wanted) (outcome : Outcome) (points : List Sums) → Completes m wanted (Ended outcome points) []
-  ended_here wanted outcome points = record { kept = tt; ended = tt }
+  module _ (Last : State → Type 0) (final : (state : State) → Last state → HasEnded state) where
+    rest_completes : (wanted : Wanted) (version : Version) (points : List Sums) (ending : Ending) → EndsWell m (latest points) ending → HaveMarks version (last_tree ending) → MayEnd wanted ending → Last (Ended (outcome_of ending) points) → Reaches m wanted Last (BetweenPoints version points) (ending_lines version ending)
+    rest_completes All version points (Whole last) r of may end =
+        on m All Last (BetweenPoints version points) _ lines.Done (tree_lines version last) tt refl
+        (subst (λ ys. Reaches m All Last (InTree (record { version = version; owner = OfRest; points = points }) Begins []) ys) (append-nil (tree_lines version last)) (tree_completes m All OfRest points Last version last [] r of.0 (record { kept = tt; ended = end })))
+    rest_completes Cuts version points (Whole last) r of may end = absurd may
+    rest_completes wanted version points (Cut outline) r of may end = on m wanted Last (BetweenPoints version points) _ lines.Cut (map outline_line outline) tt refl (open_tree_completes m wanted points Last outline r end)
 
-  rest_completes : (wanted : Wanted) (version : Version) (points : List Sums) (ending : Ending) → EndsWell m (latest points) ending → HaveMarks version (last_tree ending) → MayEnd wanted ending → Completes m wanted (BetweenPoints version points) (ending_lines version ending)
-  rest_completes All version points (Whole last) r of may =
-      on m All (BetweenPoints version points) _ lines.Done (tree_lines version last) tt refl
-      (subst (λ ys. Completes m All (InTree (record { version = version; owner = OfRest; points = points }) Begins []) ys) (append-nil (tree_lines version last)) (tree_completes m All OfRest points version last [] r of.0 (ended_here All Proved points)))
-  rest_completes Cuts version points (Whole last) r of may = absurd may
-  rest_completes wanted version points (Cut outline) r of may = on m wanted (BetweenPoints version points) _ lines.Cut (map outline_line outline) tt refl (open_tree_completes m wanted points outline r)
+    point_completes : (wanted : Wanted) (version : Version) (points : List Sums) (point : Point) (xs : List Line) → IsInLimits m → IsGoodPoint m (latest points) point → AreMarksOf version point.steps.marks → Reaches m wanted Last (BetweenPoints version (point.sums ∷ points)) xs → Reaches m wanted Last (BetweenPoints version points) (point_lines version point ++ xs)
+    point_completes wanted version points point xs limited good of h =
+        let bounds = sums_are_good point.sums (subst (λ s. s.loss ≤ 2500000) good.sums (small_loss m limited point.plan good.legal)) (subst (λ s. s.count ≤ 250) good.sums (few_new m limited point.plan good.legal)) in
+        let tree : Reaches m wanted Last (InTree (record { version = version; owner = OfPoint; points = point.sums ∷ points }) Begins []) (tree_lines version point.steps ++ xs) = tree_completes m wanted OfPoint (point.sums ∷ points) Last version point.steps xs good.steps of h in
+        let plan : Reaches m wanted Last (InPlan version points point.sums []) (map slab_line (columns_of point.plan) ++ (tree_lines version point.steps ++ xs)) = plan_completes m wanted version points point.sums Last final point.plan (tree_lines version point.steps ++ xs) good.legal good.order good.sums tree in
+        on m wanted Last (BetweenPoints version points) _ (sums_line point.sums) ((map slab_line (columns_of point.plan) ++ tree_lines version point.steps) ++ xs) (bounds, ((good.loss, good.count), tt)) refl
+        (subst (λ ys. Reaches m wanted Last (InPlan version points point.sums []) ys) (sym (append_assoc (map slab_line (columns_of point.plan)) (tree_lines version point.steps) xs)) plan)
 
-  point_completes : (wanted : Wanted) (version : Version) (points : List Sums) (point : Point) (xs : List Line) → IsInLimits m → IsGoodPoint m (latest points) point → AreMarksOf version point.steps.marks → Completes m wanted (BetweenPoints version (point.sums ∷ points)) xs → Completes m wanted (BetweenPoints version points) (point_lines version point ++ xs)
-  point_completes wanted version points point xs limited good of h =
-      let bounds = sums_are_good point.sums (subst (λ s. s.loss ≤ 2500000) good.sums (small_loss m limited point.plan good.legal)) (subst (λ s. s.count ≤ 250) good.sums (few_new m limited point.plan good.legal)) in
-      let tree : Completes m wanted (InTree (record { version = version; owner = OfPoint; points = point.sums ∷ points }) Begins []) (tree_lines version point.steps ++ xs) = tree_completes m wanted OfPoint (point.sums ∷ points) version point.steps xs good.steps of h in
-      let plan : Completes m wanted (InPlan version points point.sums []) (map slab_line (columns_of point.plan) ++ (tree_lines version point.steps ++ xs)) = plan_completes m wanted version points point.sums point.plan (tree_lines version point.steps ++ xs) good.legal good.order good.sums tree in
-      on m wanted (BetweenPoints version points) _ (sums_line point.sums) ((map slab_line (columns_of point.plan) ++ tree_lines version point.steps) ++ xs) (bounds, ((good.loss, good.count), tt)) refl
-      (subst (λ ys. Completes m wanted (InPlan version points point.sums []) ys) (sym (append_assoc (map slab_line (columns_of point.plan)) (tree_lines version point.steps) xs)) plan)
-
-  tail_completes : (wanted : Wanted) (version : Version) (ps : List Point) (points : List Sums) (ending : Ending) → IsInLimits m → IsGoodFrom m (latest points) ps → EndsWell m (last_sums (latest points) ps) ending → HaveMarks version (map (λ point. point.steps) ps ++ last_tree ending) → MayEnd wanted ending
-      → Completes m wanted (BetweenPoints version points) (flat_map (point_lines version) ps ++ ending_lines version ending)
-  tail_completes wanted version [] points ending limited good ends of may = rest_completes wanted version points ending ends of may
-  tail_completes wanted version (point ∷ ps) points ending limited good ends of may =
-      subst (λ ys. Completes m wanted (BetweenPoints version points) ys) (sym (append_assoc (point_lines version point) (flat_map (point_lines version) ps) (ending_lines version ending)))
-      (point_completes wanted version points point (flat_map (point_lines version) ps ++ ending_lines version ending) limited good.0 of.0 (tail_completes wanted version ps (point.sums ∷ points) ending limited good.1 ends of.1 may))
+    tail_completes : (wanted : Wanted) (version : Version) (ps : List Point) (points : List Sums) (ending : Ending) → IsInLimits m → IsGoodFrom m (latest points) ps → EndsWell m (last_sums (latest points) ps) ending → HaveMarks version (map (λ point. point.steps) ps ++ last_tree ending) → MayEnd wanted ending
+        → Last (Ended (outcome_of ending) (latest_first ps points)) → Reaches m wanted Last (BetweenPoints version points) (flat_map (point_lines version) ps ++ ending_lines version ending)
+    tail_completes wanted version [] points ending limited good ends of may end = rest_completes wanted version points ending ends of may end
+    tail_completes wanted version (point ∷ ps) points ending limited good ends of may end =
+        subst (λ ys. Reaches m wanted Last (BetweenPoints version points) ys) (sym (append_assoc (point_lines version point) (flat_map (point_lines version) ps) (ending_lines version ending)))
+        (point_completes wanted version points point (flat_map (point_lines version) ps ++ ending_lines version ending) limited good.0 of.0 (tail_completes wanted version ps (point.sums ∷ points) ending limited good.1 ends of.1 may end))
 
 -- ---- certificates
 
@@ -173,20 +179,36 @@ from_begin m wanted (lines.Spread ns ∷ xs) h = absurd h.1.kept.0.0
 from_begin m wanted (lines.CNew ns ∷ xs) h = absurd h.1.kept.0.0
 from_begin m wanted (lines.COld ns ∷ xs) h = absurd h.1.kept.0.0
 
-with_header : (m : Mill) (wanted : Wanted) (version : Version) (xs : List Line) → Completes m wanted (BetweenPoints version []) xs → Completes m wanted Begin (header_line version ∷ xs)
-with_header m wanted One xs h = on m wanted Begin _ lines.Header xs tt refl h
-with_header m wanted Two xs h = on m wanted Begin _ lines.Header2 xs tt refl h
+with_header : (m : Mill) (wanted : Wanted) (Last : State → Type 0) (version : Version) (xs : List Line) → Reaches m wanted Last (BetweenPoints version []) xs → Reaches m wanted Last Begin (header_line version ∷ xs)
+with_header m wanted Last One xs h = on m wanted Last Begin _ lines.Header xs tt refl h
+with_header m wanted Last Two xs h = on m wanted Last Begin _ lines.Header2 xs tt refl h
 
-lines_from : (m : Mill) (wanted : Wanted) (xs : List Line) → Comes m wanted Begin xs → (c : Certificate) × IsWanted m wanted c × (xs ≡ certificate_lines c)
+pub lines_from : (m : Mill) (wanted : Wanted) (xs : List Line) → Comes m wanted Begin xs → (c : Certificate) × IsWanted m wanted c × (xs ≡ certificate_lines c)
 lines_from m wanted xs h =
     let begun = from_begin m wanted xs h in
     let tail : Tail m wanted begun.0 [] begun.1 = tail_from m (suc (length begun.1)) wanted begun.0 [] begun.1 (omega arith) begun.3 in
     (record { version = begun.0; points = tail.more; ending = tail.ending }, record { good = good_from m begun.0 tail.more tail.ending tail.good tail.ends tail.marks; ends = tail.may }, begun.2 ∙ ap (λ ys. header_line begun.0 ∷ ys) tail.lines_are)
 
+reversed : (ps : List Point) (points : List Sums) → latest_first ps points ≡ reverse (sums_list ps) ++ points
+reversed [] points = refl
+reversed (point ∷ ps) points = reversed ps (point.sums ∷ points) ∙ sym (append_assoc (reverse (sums_list ps)) (point.sums ∷ []) points) ∙ ap (λ xs. xs ++ points) (sym (reverse-append (point.sums ∷ []) (sums_list ps)))
+
+-- the state that the lines of a good certificate reach
+abbrev IsEndOf : Certificate → State → Type 0
+IsEndOf c state = state ≡ Ended (outcome_of c.ending) (latest_first c.points [])
+
+is_final : (c : Certificate) (state : State) → IsEndOf c state → HasEnded state
+is_final c state e = subst HasEnded (sym e) tt
+
+good_reaches : (m : Mill) (wanted : Wanted) (c : Certificate) → IsInLimits m → IsWanted m wanted c → Reaches m wanted (IsEndOf c) Begin (certificate_lines c)
+good_reaches m wanted c limited h =
+    let parts = ends_of_good m c.points c.ending h.good.ended in
+    with_header m wanted (IsEndOf c) c.version (flat_map (point_lines c.version) c.points ++ ending_lines c.version c.ending) (tail_completes m (IsEndOf c) (is_final c) wanted c.version c.points [] c.ending limited parts.0 parts.1 h.good.marks h.ends refl)
+
 lines_back : (m : Mill) (wanted : Wanted) (c : Certificate) → IsInLimits m → IsWanted m wanted c → Comes m wanted Begin (certificate_lines c)
 lines_back m wanted c limited h =
-    let parts = ends_of_good m c.points c.ending h.good.ended in
-    (good_lines_are_read m c limited h.good, with_header m wanted c.version (flat_map (point_lines c.version) c.points ++ ending_lines c.version c.ending) (tail_completes m wanted c.version c.points [] c.ending limited parts.0 parts.1 h.good.marks h.ends))
+    let there = good_reaches m wanted c limited h in
+    (good_lines_are_read m c limited h.good, record { kept = there.kept; ended = is_final c (after m wanted Begin (certificate_lines c)) there.ended })
 
 pub lines_are_read : LinesAreRead
 lines_are_read m wanted xs limited = (lines_from m wanted xs, λ h. subst (λ ys. Comes m wanted Begin ys) (sym h.2) (lines_back m wanted h.0 limited h.1))
@@ -197,3 +219,7 @@ accepted_exactly m wanted bytes limited = (
   λ h. let done = lines_back m wanted h.0 limited h.1 in
       (certificate_lines h.0, record { reads = record { bytes_are = h.2 ∙ sym (append-nil (lines_text (certificate_lines h.0))); readable = done.0; kept = done.1.kept }; ended = done.1.ended }),
 )
+
+pub ends_have_the_points : EndsHaveThePoints
+ends_have_the_points m wanted c limited h =
+    (good_reaches m wanted c limited h).ended ∙ ap (λ points. Ended (outcome_of c.ending) points) (reversed c.points [] ∙ append-nil (reverse (sums_list c.points)))

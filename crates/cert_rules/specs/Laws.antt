@@ -1,21 +1,29 @@
 -- The laws of the rules, as statements.
-use Rattle.std.specs.Prelude.{◌≡◌, ◌↔◌, ℕ, List}
+use Rattle.std.specs.Prelude.{◌≡◌, ◌↔◌, ℕ, List, reverse}
 use Rattle.std.specs.List.{AllByRecursion}
 use Rattle.mill_model.specs.Mill.{Mill, IsInLimits}
 use Rattle.cert_view.specs.declared.line.Line.{Line}
 use Rattle.cert_text.specs.Certificates.{Ending, Certificate, IsGood, IsCut}
 use Rattle.cert_text.specs.Lines.{certificate_lines}
 use Rattle.cert_text.specs.Texts.{Spells, IsReadable}
-use Rattle.cert_rules.specs.States.{Wanted, State}
+use Rattle.mill_model.specs.Fronts.{sums_list}
+use Rattle.cert_text.specs.Certificates.Ending.{Whole, Cut}
+use Rattle.cert_rules.specs.declared.why.Why.{Why}
+use Rattle.cert_rules.specs.States.{Wanted, Outcome, State}
+use Rattle.cert_rules.specs.States.Outcome.{Proved, Unfinished}
 use Rattle.cert_rules.specs.States.Wanted.{All, Cuts}
-use Rattle.cert_rules.specs.States.State.{Begin}
+use Rattle.cert_rules.specs.States.State.{Begin, Ended}
 use Rattle.cert_rules.specs.Turns.{after, AreKept}
-use Rattle.cert_rules.specs.Reading.{HasEnded, IsAccepted}
+use Rattle.cert_rules.specs.Reading.{HasEnded, IsAccepted, IsFirstBad}
 
--- lines that keep their rules from a state to the end of a text
-pub record Completes (m : Mill) (wanted : Wanted) (state : State) (lines : List Line) : Type 0 where
+-- lines that keep their rules from a state to one that is as Last says
+pub record Reaches (m : Mill) (wanted : Wanted) (Last : State → Type 0) (state : State) (lines : List Line) : Type 0 where
   pub kept : AreKept m wanted state lines
-  pub ended : HasEnded (after m wanted state lines)
+  pub ended : Last (after m wanted state lines)
+
+-- to the end of a text
+abbrev pub Completes : Mill → Wanted → State → List Line → Type 0
+Completes m wanted = Reaches m wanted HasEnded
 
 -- how a certificate may end for a reader
 abbrev pub MayEnd : Wanted → Ending → Type 0
@@ -36,3 +44,22 @@ LinesAreRead = (m : Mill) (wanted : Wanted) (lines : List Line) → IsInLimits m
 abbrev pub AcceptedExactly : Type 0
 AcceptedExactly = (m : Mill) (wanted : Wanted) (bytes : List ℕ) → IsInLimits m →
     ((lines : List Line) × IsAccepted m wanted bytes lines) ↔ ((c : Certificate) × IsWanted m wanted c × Spells bytes c)
+
+abbrev pub outcome_of : Ending → Outcome
+outcome_of (Whole last) = Proved
+outcome_of (Cut outline) = Unfinished
+
+-- after the lines of a good certificate the state has the sums of its points, the latest first
+abbrev pub EndsHaveThePoints : Type 0
+EndsHaveThePoints = (m : Mill) (wanted : Wanted) (c : Certificate) → IsInLimits m → IsWanted m wanted c →
+    after m wanted Begin (certificate_lines c) ≡ Ended (outcome_of c.ending) (reverse (sums_list c.points))
+
+-- no line is bad where bytes are accepted, and there is at most one first bad line, with one why
+abbrev pub OneFirstBadLine : Type 0
+OneFirstBadLine =
+    ((m : Mill) (wanted : Wanted) (bytes : List ℕ) (lines : List Line) (n : ℕ) (broken : Why) → IsAccepted m wanted bytes lines → IsFirstBad m wanted bytes n broken → ⊥)
+    × ((m : Mill) (wanted : Wanted) (bytes : List ℕ) (n k : ℕ) (broken other : Why) → IsFirstBad m wanted bytes n broken → IsFirstBad m wanted bytes k other → (n ≡ k) × (broken ≡ other))
+
+-- bytes are accepted as one list of lines at most
+abbrev pub OneReading : Type 0
+OneReading = (m : Mill) (wanted : Wanted) (bytes : List ℕ) (lines others : List Line) → IsAccepted m wanted bytes lines → IsAccepted m wanted bytes others → lines ≡ others
