@@ -12,3 +12,4 @@ pub mod PlanLines
 pub mod SumLines
 pub mod Wholes
 pub mod FirstBad
+pub mod Verdicts

@@ -225,14 +225,39 @@ old_share_back x s os = ap₂ (λ (t : ℕ) (ys : List ℕ). record { times = x;
 
 pub new_share_kept : (m : Mill) (path : List Decision) (d : ℕ) (shares : List Share) (x : ℤ) (size : ℕ) (os : List ℕ) → IsNextShare m path d shares (record { times = x; kind = New size; orders = os }) → AllKept (new_share_rules m path d shares (x ∷ pos size ∷ map number os))
 new_share_kept m path d shares x size os h =
-    let back : map index (map number os) ≡ os = index_numbers os in
-    (h.multiplier.0, ((refl, h.legal.fits.kind), ((names_numbers (length m.orders) 0 os h.legal.rises, subst (λ ys. Rises 0 (length m.orders) ys) (sym back) h.legal.rises), (subst (λ ys. load m ys ≤ size) (sym back) h.legal.fits.weight,
-    (subst (λ ys. colours_of m ys ≤ m.colour_limit) (sym back) h.legal.fits.colours, (subst (λ ys. column_agrees path (record { kind = New size; orders = ys }) ≡ true) (sym back) h.agrees, (subst (λ z. OrdersWithin m d (shares ++ z ∷ [])) (sym (new_share_back x size os)) h.orders, tt)))))))
+    let back : map index (map number os) ≡ os = index_numbers os in (
+      h.multiplier.0,
+      (
+        (refl, h.legal.fits.kind),
+        (
+          (names_numbers (length m.orders) 0 os h.legal.rises, subst (λ ys. Rises 0 (length m.orders) ys) (sym back) h.legal.rises),
+          (
+            subst (λ ys. load m ys ≤ size) (sym back) h.legal.fits.weight,
+            (subst (λ ys. colours_of m ys ≤ m.colour_limit) (sym back) h.legal.fits.colours, (subst (λ ys. column_agrees path (record { kind = New size; orders = ys }) ≡ true) (sym back) h.agrees, (subst (λ z. OrdersWithin m d (shares ++ z ∷ [])) (sym (new_share_back x size os)) h.orders, tt))),
+          ),
+        ),
+      ),
+    )
 
 pub old_share_kept : (m : Mill) (path : List Decision) (d : ℕ) (shares : List Share) (x : ℤ) (s : ℕ) (os : List ℕ) → IsNextShare m path d shares (record { times = x; kind = Old s; orders = os }) → AllKept (old_share_rules m path d shares (x ∷ number s ∷ map number os))
 old_share_kept m path d shares x s os h =
     let back : map index (map number os) ≡ os = index_numbers os in
-    let share : share_of_old (x ∷ number s ∷ map number os) ≡ record { times = x; kind = Old s; orders = os } = old_share_back x s os in
-    (h.multiplier.0, (names_number (length m.yard) s h.legal.fits.kind, ((names_numbers (length m.orders) 0 os h.legal.rises, subst (λ ys. Rises 0 (length m.orders) ys) (sym back) h.legal.rises),
-    (subst (λ (z : Share). load m z.orders ≤ size_of m z.kind) (sym share) h.legal.fits.weight, (subst (λ (z : Share). colours_of m z.orders ≤ m.colour_limit) (sym share) h.legal.fits.colours, (subst (λ z. has_barred m (column_of z) ≡ false) (sym share) h.legal.fits.bars,
-    (subst (λ z. column_agrees path (column_of z) ≡ true) (sym share) h.agrees, ((subst (λ z. OrdersWithin m d (shares ++ z ∷ [])) (sym share) h.orders, subst (λ z. SlabsWithin m d (shares ++ z ∷ [])) (sym share) h.slabs), tt))))))))
+    let share : share_of_old (x ∷ number s ∷ map number os) ≡ record { times = x; kind = Old s; orders = os } = old_share_back x s os in (
+      h.multiplier.0,
+      (
+        names_number (length m.yard) s h.legal.fits.kind,
+        (
+          (names_numbers (length m.orders) 0 os h.legal.rises, subst (λ ys. Rises 0 (length m.orders) ys) (sym back) h.legal.rises),
+          (
+            subst (λ (z : Share). load m z.orders ≤ size_of m z.kind) (sym share) h.legal.fits.weight,
+            (
+              subst (λ (z : Share). colours_of m z.orders ≤ m.colour_limit) (sym share) h.legal.fits.colours,
+              (
+                subst (λ z. has_barred m (column_of z) ≡ false) (sym share) h.legal.fits.bars,
+                (subst (λ z. column_agrees path (column_of z) ≡ true) (sym share) h.agrees, ((subst (λ z. OrdersWithin m d (shares ++ z ∷ [])) (sym share) h.orders, subst (λ z. SlabsWithin m d (shares ++ z ∷ [])) (sym share) h.slabs), tt)),
+              ),
+            ),
+          ),
+        ),
+      ),
+    )

@@ -97,6 +97,13 @@ old_slab_back s os = ap₂ (λ (t : ℕ) (ys : List ℕ). record { kind = Old t;
 
 pub next_old_slab : (m : Mill) (slabs : List Column) (s : ℕ) (os : List ℕ) → IsNextSlab m slabs (record { kind = Old s; orders = os }) → AllKept (old_rules m slabs (number s ∷ map number os))
 next_old_slab m slabs s os h =
-    let back : old_slab (number s ∷ map number os) ≡ record { kind = Old s; orders = os } = old_slab_back s os in
-    (names_number (length m.yard) s h.stock, (subst (λ i. is_among (kinds_of slabs) (Old i) ≡ false) (sym (index_number s)) h.once, (placeable m slabs (record { kind = Old s; orders = os }) h,
-    (subst (λ (c : Column). load m c.orders ≤ size_of m c.kind) (sym back) h.weight, (subst (λ (c : Column). colours_of m c.orders ≤ m.colour_limit) (sym back) h.colours, (subst (λ c. has_barred m c ≡ false) (sym back) h.bars, tt))))))
+    let back : old_slab (number s ∷ map number os) ≡ record { kind = Old s; orders = os } = old_slab_back s os in (
+      names_number (length m.yard) s h.stock,
+      (
+        subst (λ i. is_among (kinds_of slabs) (Old i) ≡ false) (sym (index_number s)) h.once,
+        (
+          placeable m slabs (record { kind = Old s; orders = os }) h,
+          (subst (λ (c : Column). load m c.orders ≤ size_of m c.kind) (sym back) h.weight, (subst (λ (c : Column). colours_of m c.orders ≤ m.colour_limit) (sym back) h.colours, (subst (λ c. has_barred m c ≡ false) (sym back) h.bars, tt))),
+        ),
+      ),
+    )

@@ -6,6 +6,7 @@ use Rattle.cert_view.specs.declared.line.Line.{Line}
 use Rattle.cert_text.specs.Certificates.{Ending, Certificate, IsGood, IsCut}
 use Rattle.cert_text.specs.Lines.{certificate_lines}
 use Rattle.cert_text.specs.Texts.{Spells, IsReadable}
+use Rattle.mill_model.specs.declared.sums.Sums.{Sums}
 use Rattle.mill_model.specs.Fronts.{sums_list}
 use Rattle.cert_text.specs.Certificates.Ending.{Whole, Cut}
 use Rattle.cert_rules.specs.declared.why.Why.{Why}
@@ -15,6 +16,7 @@ use Rattle.cert_rules.specs.States.Wanted.{All, Cuts}
 use Rattle.cert_rules.specs.States.State.{Begin, Ended}
 use Rattle.cert_rules.specs.Turns.{after, AreKept}
 use Rattle.cert_rules.specs.Reading.{HasEnded, IsAccepted, IsFirstBad}
+use Rattle.cert_rules.specs.Verdicts.{Verdict, IsVerdict, Means, verdict_of}
 
 -- lines that keep their rules from a state to one that is as Last says
 pub record Reaches (m : Mill) (wanted : Wanted) (Last : State → Type 0) (state : State) (lines : List Line) : Type 0 where
@@ -63,3 +65,16 @@ OneFirstBadLine =
 -- bytes are accepted as one list of lines at most
 abbrev pub OneReading : Type 0
 OneReading = (m : Mill) (wanted : Wanted) (bytes : List ℕ) (lines others : List Line) → IsAccepted m wanted bytes lines → IsAccepted m wanted bytes others → lines ≡ others
+
+-- where the reading of accepted bytes has ended, this is what they show
+abbrev pub EndsAreVerdicts : Type 0
+EndsAreVerdicts = (m : Mill) (bytes : List ℕ) (lines : List Line) (outcome : Outcome) (points : List Sums) → IsInLimits m → IsAccepted m All bytes lines →
+    after m All Begin lines ≡ Ended outcome points → IsVerdict m bytes (verdict_of outcome (reverse points))
+
+-- bytes have one verdict at most
+abbrev pub OneVerdict : Type 0
+OneVerdict = (m : Mill) (bytes : List ℕ) (v w : Verdict) → IsInLimits m → IsVerdict m bytes v → IsVerdict m bytes w → v ≡ w
+
+-- a verdict means what it says: the points are the front, no plan is legal, or the points begin the front
+abbrev pub VerdictsHold : Type 0
+VerdictsHold = (m : Mill) (bytes : List ℕ) (v : Verdict) → IsVerdict m bytes v → Means m v

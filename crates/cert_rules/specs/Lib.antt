@@ -7,4 +7,5 @@ pub mod Slabs
 pub mod Spreads
 pub mod Turns
 pub mod Reading
+pub mod Verdicts
 pub mod Laws
