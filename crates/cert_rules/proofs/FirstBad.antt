@@ -44,13 +44,13 @@ module _ (m : Mill) (wanted : Wanted) where
   text_of line xs rest = append_assoc (line_text line ++ 10 ∷ []) (lines_text xs) rest ∙ append_assoc (line_text line) (10 ∷ []) (lines_text xs ++ rest)
 
   -- the first of readable lines is read
-  first_read : (line : Line) (xs : List Line) (rest bytes : List ℕ) → IsReadable line → bytes ≡ lines_text (line ∷ xs) ++ rest → (next_line bytes ≡ Some (Ok line)) × (after_line bytes ≡ lines_text xs ++ rest)
+  pub first_read : (line : Line) (xs : List Line) (rest bytes : List ℕ) → IsReadable line → bytes ≡ lines_text (line ∷ xs) ++ rest → (next_line bytes ≡ Some (Ok line)) × (after_line bytes ≡ lines_text xs ++ rest)
   first_read line xs rest bytes read e = text_is_read line bytes (lines_text xs ++ rest) (record { good = read.good; short = read.short; text = e ∙ text_of line xs rest })
 
-  same_line : (x y : Line) (o : Option (Result Line Spelling)) → o ≡ Some (Ok x) → o ≡ Some (Ok y) → x ≡ y
+  pub same_line : (x y : Line) (o : Option (Result Line Spelling)) → o ≡ Some (Ok x) → o ≡ Some (Ok y) → x ≡ y
   same_line x y o e f = let g : Some (Ok x) ≡ Some (Ok y) = sym e ∙ f in cc
 
-  none_after_end : (state : State) (line : Line) → HasEnded state → AllKept (line_rules m wanted state line) → ⊥
+  pub none_after_end : (state : State) (line : Line) → HasEnded state → AllKept (line_rules m wanted state line) → ⊥
   none_after_end (Ended outcome points) line ended kept = kept.0
   none_after_end Begin line ended kept = ended
   none_after_end (BetweenPoints version points) line ended kept = ended
@@ -59,7 +59,7 @@ module _ (m : Mill) (wanted : Wanted) where
   none_after_end (InOpenTree points path) line ended kept = ended
 
   -- a good line isn't bad
-  good_not_bad : (state : State) (line : Line) (xs : List Line) (rest bytes : List ℕ) (w : Why) → IsReadable line → AllKept (line_rules m wanted state line) → bytes ≡ lines_text (line ∷ xs) ++ rest → IsBadNext m wanted state bytes w → ⊥
+  pub good_not_bad : (state : State) (line : Line) (xs : List Line) (rest bytes : List ℕ) (w : Why) → IsReadable line → AllKept (line_rules m wanted state line) → bytes ≡ lines_text (line ∷ xs) ++ rest → IsBadNext m wanted state bytes w → ⊥
   good_not_bad state line xs rest bytes w read kept e bad = elim bad [
     | inl x ↦ none_after_end state line x.0 kept
     | inr x ↦ not_both (line_rules m wanted state line) w kept (subst (λ o. IsBadLine m wanted state o w) (first_read line xs rest bytes read e).0 x.1)
@@ -84,7 +84,7 @@ module _ (m : Mill) (wanted : Wanted) where
   ]
 
   -- readable lines that keep their rules
-  abbrev Good : State → List Line → Type 0
+  abbrev pub Good : State → List Line → Type 0
   Good state xs = AllByRecursion IsReadable xs × AreKept m wanted state xs
 
   one_place : (state : State) (xs ys : List Line) (rest other bytes : List ℕ) (v w : Why) → Good state xs → Good state ys → bytes ≡ lines_text xs ++ rest → bytes ≡ lines_text ys ++ other

@@ -13,3 +13,4 @@ pub mod SumLines
 pub mod Wholes
 pub mod FirstBad
 pub mod Verdicts
+pub mod Standing

@@ -9,3 +9,4 @@ pub mod Turns
 pub mod Reading
 pub mod Verdicts
 pub mod Laws
+pub mod Stands

@@ -1,5 +1,6 @@
 //! Laws of the rules.
 ghost use Rattle.cert_rules.specs.Laws.{AcceptedExactly, EndsAreVerdicts, EndsHaveThePoints, LinesAreRead, OneFirstBadLine, OneReading, OneVerdict, VerdictsHold};
+ghost use Rattle.cert_rules.specs.Stands.{EndsAreRight, FailuresStay, NewStandsForNothing, PiecesAreTaken, RunningIsNoFailure};
 
 /// Readable lines keep their rules to the end exactly where they are those of a good certificate.
 pub fn lines_are_read()
@@ -39,4 +40,18 @@ pub fn one_verdict()
 /// A verdict means what it says: the points are the Pareto front, or no plan is legal, or the points begin the front.
 pub fn verdicts_hold()
     ensures { VerdictsHold }
+{}
+
+/// A new reader stands for no bytes, one that takes a piece stands for the bytes followed by the piece, and at the end it
+/// says the first bad line, or that there is none.
+pub fn readers_stand()
+    ensures new { NewStandsForNothing }
+    ensures pieces { PiecesAreTaken }
+    ensures end { EndsAreRight }
+{}
+
+/// Bytes that have failed stay so whatever follows, and a reader that still runs stands for none of them.
+pub fn failures_are_exact()
+    ensures stay { FailuresStay }
+    ensures running { RunningIsNoFailure }
 {}
