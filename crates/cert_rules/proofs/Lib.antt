@@ -14,3 +14,4 @@ pub mod Wholes
 pub mod FirstBad
 pub mod Verdicts
 pub mod Standing
+pub mod Room

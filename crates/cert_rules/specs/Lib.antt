@@ -10,3 +10,4 @@ pub mod Reading
 pub mod Verdicts
 pub mod Laws
 pub mod Stands
+pub mod Room
