@@ -52,7 +52,7 @@ pub record Closes (m : Mill) (limits : Limits) (d : ℕ) (shares : List Share) :
 
 -- ---- sums
 
-sum_append : (f : Share → ℕ) (xs ys : List Share) → sum_by f (xs ++ ys) ≡ sum_by f xs + sum_by f ys
+pub sum_append : (f : Share → ℕ) (xs ys : List Share) → sum_by f (xs ++ ys) ≡ sum_by f xs + sum_by f ys
 sum_append f [] ys = omega arith
 sum_append f (x ∷ xs) ys = omega (arith, sum_by-cons f x (xs ++ ys), sum_by-cons f x xs, sum_append f xs ys)
 

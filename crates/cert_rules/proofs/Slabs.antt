@@ -48,14 +48,14 @@ has_above low high (x ∷ xs) o r h = elim (cases_Bool (eqb x o)) [
   | inr e ↦ omega (arith, r.0, has_above (x + 1) high xs o r.2 (sym (ap (λ b. b || has xs o) e) ∙ h))
 ]
 
-has_below : (low high : ℕ) (xs : List ℕ) (o : ℕ) → Rises low high xs → has xs o ≡ true → o < high
+pub has_below : (low high : ℕ) (xs : List ℕ) (o : ℕ) → Rises low high xs → has xs o ≡ true → o < high
 has_below low high [] o r h = absurd (both_ways false refl h)
 has_below low high (x ∷ xs) o r h = elim (cases_Bool (eqb x o)) [
   | inl e ↦ let same : x ≡ o = eqb-true x o e in omega (arith, same, r.1)
   | inr e ↦ has_below (x + 1) high xs o r.2 (sym (ap (λ b. b || has xs o) e) ∙ h)
 ]
 
-head_has : (os : List ℕ) → 0 < length os → has os (get_or os 0 0) ≡ true
+pub head_has : (os : List ℕ) → 0 < length os → has os (get_or os 0 0) ≡ true
 head_has [] h = absurd (omega (arith, h))
 head_has (o ∷ os) h = or_left (eqb o o) (has os o) (eq-eqb o o refl)
 

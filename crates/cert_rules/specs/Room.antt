@@ -1,5 +1,5 @@
 -- How many lines can still come, and how many bytes: it falls as bytes are read, so that reading ends.
-use Rattle.std.specs.Prelude.{ℕ, zero, suc, ◌+◌, ◌-◌, ◌*◌, ◌^◌, Bool, true, false, ◌&&◌, cond, eqb, unsigned_abs, List, [], ◌∷◌, length}
+use Rattle.std.specs.Prelude.{ℕ, zero, suc, ◌+◌, ◌-◌, ◌*◌, ◌^◌, ◌<◌, ◌≤◌, ◌⊎◌, Bool, true, false, ◌&&◌, cond, eqb, unsigned_abs, List, [], ◌∷◌, length}
 use Rattle.std.specs.List.{list_any}
 use Rattle.mill_model.specs.declared.ask.Ask.{Ask}
 use Rattle.mill_model.specs.declared.ask.Ask.TheVariants.{Pair, Put}
@@ -8,12 +8,16 @@ use Rattle.mill_model.specs.Mill.{Mill}
 use Rattle.mill_model.specs.Columns.{Column, has}
 use Rattle.mill_model.specs.Decisions.{Decision}
 use Rattle.mill_model.specs.Shares.{Share}
-use Rattle.cert_rules.specs.States.{Owner, Goal, Stage, State}
+use Rattle.cert_rules.specs.States.{Wanted, Owner, Goal, Stage, State}
 use Rattle.cert_rules.specs.States.Owner.{OfPoint, OfRest}
 use Rattle.cert_rules.specs.States.Stage.{Begins, Marked, InSpread}
 use Rattle.cert_rules.specs.States.State.{Begin, BetweenPoints, InPlan, InTree, InOpenTree, Ended}
+use Rattle.cert_view.specs.declared.line.Line.{Line}
+use Rattle.cert_view.specs.Text.{IsLine}
+use Rattle.cert_rules.specs.Rules.{AllKept}
+use Rattle.cert_rules.specs.Turns.{line_rules, line_next}
 use Rattle.cert_rules.specs.Spreads.{covered}
-use Rattle.cert_rules.specs.Stands.{Progress}
+use Rattle.cert_rules.specs.Stands.{Progress, Takes}
 use Rattle.cert_rules.specs.Stands.Progress.{Running, Failed}
 
 -- the sum of f over the numbers below n
@@ -110,3 +114,18 @@ lines_left m (Ended outcome points) = 0
 abbrev pub room : Mill → Progress → ℕ
 room m (Running state count held) = 8192 * lines_left m state - length held
 room m (Failed n broken) = 0
+
+-- ---- laws
+
+-- a good line leaves fewer lines to come
+abbrev pub LinesFall : Type 0
+LinesFall = (m : Mill) (wanted : Wanted) (state : State) (line : Line) → IsLine line → AllKept (line_rules m wanted state line) → lines_left m (line_next m wanted state line) < lines_left m state
+
+abbrev pub IsFailed : Progress → Type 0
+IsFailed (Running state count held) = ⊥
+IsFailed (Failed n broken) = Unit {0}
+
+-- a reader that takes a piece has failed, or its room has fallen by the length of the piece at least
+abbrev pub RoomFalls : Type 0
+RoomFalls = (m : Mill) (wanted : Wanted) (progress next : Progress) (piece : List ℕ) → Takes m wanted progress piece next →
+    IsFailed next ⊎ (room m next + length piece ≤ room m progress)

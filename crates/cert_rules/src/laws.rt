@@ -1,6 +1,7 @@
 //! Laws of the rules.
 ghost use Rattle.cert_rules.specs.Laws.{AcceptedExactly, EndsAreVerdicts, EndsHaveThePoints, LinesAreRead, OneFirstBadLine, OneReading, OneVerdict, VerdictsHold};
 ghost use Rattle.cert_rules.specs.Stands.{EndsAreRight, FailuresStay, NewStandsForNothing, PiecesAreTaken, RunningIsNoFailure};
+ghost use Rattle.cert_rules.specs.Room.{LinesFall, RoomFalls};
 
 /// Readable lines keep their rules to the end exactly where they are those of a good certificate.
 pub fn lines_are_read()
@@ -54,4 +55,11 @@ pub fn readers_stand()
 pub fn failures_are_exact()
     ensures stay { FailuresStay }
     ensures running { RunningIsNoFailure }
+{}
+
+/// A good line leaves fewer lines to come, and a reader that takes a piece has failed or its room has fallen by the length
+/// of the piece at least, so that reading ends.
+pub fn reading_ends()
+    ensures lines { LinesFall }
+    ensures room { RoomFalls }
 {}
