@@ -1,2 +1,5 @@
 pub mod Places
 pub mod Ranges
+pub mod PutBefore
+pub mod Counts
+pub mod Loads
