@@ -3,3 +3,4 @@ pub mod Ranges
 pub mod PutBefore
 pub mod Counts
 pub mod Loads
+pub mod Opening
