@@ -1,6 +1,6 @@
 -- What passes a test exactly once, and where it stands.
-use Rattle.std.proofs.Common.{◌≡◌, ℕ, zero, suc, ◌+◌, ◌<◌, ◌≤◌, ◌⊎◌, Bool, true, false, cond, not, ◌&&◌, eqb, ltb, leb, List, [], ◌∷◌, length, get_or, count_by, sum_by, map, Option, Some, None, All, refl, sym, ap, ◌∙◌, subst, inl, inr, arith}
-use Rattle.std.specs.List.{position_or_len, range_with_len, find, fold}
+use Rattle.std.proofs.Common.{◌≡◌, ℕ, zero, suc, ◌+◌, ◌<◌, ◌≤◌, ◌⊎◌, Bool, true, false, cond, not, ◌&&◌, ◌||◌, eqb, ltb, leb, List, [], ◌∷◌, length, get_or, count_by, sum_by, map, Option, Some, None, All, refl, sym, ap, ◌∙◌, subst, inl, inr, arith}
+use Rattle.std.specs.List.{position_or_len, range_with_len, find, fold, list_any}
 use Rattle.std.proofs.lemmas.Bool.{cases_Bool, cases_eq, cond-true, cond-false, cond_both, eq-eqb, ne_eqb}
 use Rattle.std.proofs.lemmas.List.Sums.{sum_by-cons, get_or-le-sum_by}
 use Rattle.std.proofs.lemmas.List.Folds.{fold-map}
@@ -47,7 +47,10 @@ first_is_only test (x ∷ xs) (suc k) d e h = elim (cases_Bool (test x)) [
 ]
   where
     shifted : (n : ℕ) → eqb (1 + n) (suc k) ≡ eqb n k
-    shifted n = let e : 1 + n ≡ suc n = omega arith in ap (λ i. eqb i (suc k)) e
+    shifted n = elim (cases_eq n k) [
+      | inl q ↦ eq-eqb (1 + n) (suc k) (omega arith) ∙ sym (eq-eqb n k q)
+      | inr ne ↦ ne_eqb (1 + n) (suc k) (λ q. ne (omega arith)) ∙ sym (ne_eqb n k ne)
+    ]
 
 -- what is found passes, and has what each member has
 pub find_has : {X : Type 0} (P : X → Type 0) (test : X → Bool) (xs : List X) (y : X) → All P xs → find test xs ≡ Some y → P y × (test y ≡ true)
@@ -59,6 +62,11 @@ find_has P test (x ∷ xs) y all e = elim (cases_Bool (test x)) [
   where
     here : test x ≡ true → x ≡ y → P y × (test y ≡ true)
     here t q = (subst P q (All-head P x xs all), ap test (sym q) ∙ t)
+
+-- a test of what each member becomes
+pub any-map : {X Y : Type 0} (test : Y → Bool) (f : X → Y) (xs : List X) → list_any test (map f xs) ≡ list_any (λ x. test (f x)) xs
+any-map test f [] = refl
+any-map test f (x ∷ xs) = ap (λ b. test (f x) || b) (any-map test f xs)
 
 -- each number of a range stands in it once
 pub count-range : (o a n : ℕ) → count_by (λ k. eqb k o) (range_with_len a n) ≡ cond (leb a o && ltb o (a + n)) 1 0

@@ -4,3 +4,7 @@ pub mod PutBefore
 pub mod Counts
 pub mod Loads
 pub mod Opening
+pub mod MadeLimits
+pub mod Filled
+pub mod Started
+pub mod Halves
