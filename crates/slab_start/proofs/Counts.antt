@@ -42,7 +42,7 @@ first_is_only test (x ∷ xs) zero d e h = elim (cases_Bool (test x)) [
   | inr f ↦ rw f (ne_eqb (1 + position_or_len test xs) 0 (λ q. omega arith))
 ]
 first_is_only test (x ∷ xs) (suc k) d e h = elim (cases_Bool (test x)) [
-  | inl t ↦ rw t (sym (none_passes test xs k d (omega (arith, counted-cons test x xs, one (test x) t)) (omega arith)))
+  | inl t ↦ rw t (ne_eqb 0 (suc k) (λ q. omega arith) ∙ sym (none_passes test xs k d (omega (arith, counted-cons test x xs, one (test x) t)) (omega arith)))
   | inr f ↦ rw f (shifted (position_or_len test xs) ∙ first_is_only test xs k d (omega (arith, counted-cons test x xs, none (test x) f)) (omega arith))
 ]
   where

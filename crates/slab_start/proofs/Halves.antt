@@ -158,25 +158,25 @@ module _ (m : Mill) where
         λ x l. omega (arith, sum_by-set (λ (s : Column). cond (eqb (load m s.orders) x) 1 0) slabs k (with_order o (get_or slabs k d)) d h, none (eqb (load m (with_order o (get_or slabs k d)).orders) x) (ne_eqb (load m (with_order o (get_or slabs k d)).orders) x (λ e. omega arith))) in
         record {
           each = All-set IsPart slabs k (with_order o (get_or slabs k d)) (record { new = part.new; part = inl full_load }) f.each;
-          pairs = λ x low high. pair (load m (get_or slabs k d).orders) x low high full (less (44 - x) (omega arith));
-          even = halved (load m (get_or slabs k d).orders) full half (less 22 (omega arith));
+          pairs = λ x low high. pair (load m (get_or slabs k d).orders) x (slabs_of (44 - x) (set slabs k (with_order o (get_or slabs k d)))) low high half full (less (44 - x) (omega arith));
+          even = halved (load m (get_or slabs k d).orders) (slabs_of 22 (set slabs k (with_order o (get_or slabs k d)))) full half (less 22 (omega arith));
           once = omega (arith, less 22 (omega arith), f.once);
           weights = omega (arith, sum_by-set (λ (s : Column). load m s.orders) slabs k (with_order o (get_or slabs k d)) d h, load_with o (get_or slabs k d), sum_by-cons weight o left, f.weights);
           falls = f.falls.1;
           range = All-tail (λ i. (0 < weight i) × (weight i ≤ 44)) o left f.range;
         }
       where
-        pair : (l x : ℕ) {n : ℕ} → 0 < x → x < 22 → l + weight o ≡ 44 → n + cond (eqb l (44 - x)) 1 0 ≡ slabs_of (44 - x) slabs → orders_of x left ≡ n + orders_of (44 - x) left
-        pair l x low high full less = elim (cases_eq (weight o) x) [
+        pair : (l x n : ℕ) → 0 < x → x < 22 → 22 ≤ l → l + weight o ≡ 44 → n + cond (eqb l (44 - x)) 1 0 ≡ slabs_of (44 - x) slabs → orders_of x left ≡ n + orders_of (44 - x) left
+        pair l x n low high half full less = elim (cases_eq (weight o) x) [
           | inl e ↦ omega (arith, f.pairs x low high, left_with x, left_with (44 - x), less, one (eqb (weight o) x) (eq-eqb (weight o) x e), none (eqb (weight o) (44 - x)) (ne_eqb (weight o) (44 - x) (λ q. omega arith)), one (eqb l (44 - x)) (eq-eqb l (44 - x) (omega arith)))
           | inr ne ↦ elim (cases_eq (weight o) (44 - x)) [
-            | inl e ↦ omega (arith, f.pairs x low high, left_with x, left_with (44 - x), less, none (eqb (weight o) x) (ne_eqb (weight o) x ne), one (eqb (weight o) (44 - x)) (eq-eqb (weight o) (44 - x) e), none (eqb l (44 - x)) (ne_eqb l (44 - x) (λ q. omega arith)))
+            | inl e ↦ absurd (omega arith)
             | inr other ↦ omega (arith, f.pairs x low high, left_with x, left_with (44 - x), less, none (eqb (weight o) x) (ne_eqb (weight o) x ne), none (eqb (weight o) (44 - x)) (ne_eqb (weight o) (44 - x) other), none (eqb l (44 - x)) (ne_eqb l (44 - x) (λ q. ne (omega arith))))
           ]
         ]
 
-        halved : (l : ℕ) {n : ℕ} → l + weight o ≡ 44 → 22 ≤ l → n + cond (eqb l 22) 1 0 ≡ slabs_of 22 slabs → (h : ℕ) × (n + orders_of 22 left ≡ h + h)
-        halved l full half less = elim (cases_eq l 22) [
+        halved : (l n : ℕ) → l + weight o ≡ 44 → 22 ≤ l → n + cond (eqb l 22) 1 0 ≡ slabs_of 22 slabs → (h : ℕ) × (n + orders_of 22 left ≡ h + h)
+        halved l n full half less = elim (cases_eq l 22) [
           | inl e ↦ (f.even.0 - 1, omega (arith, f.even.1, left_with 22, less, one (eqb l 22) (eq-eqb l 22 e), one (eqb (weight o) 22) (eq-eqb (weight o) 22 (omega arith))))
           | inr ne ↦ (f.even.0, omega (arith, f.even.1, left_with 22, less, none (eqb l 22) (ne_eqb l 22 ne), none (eqb (weight o) 22) (ne_eqb (weight o) 22 (λ q. ne (omega arith)))))
         ]

@@ -8,3 +8,4 @@ pub mod MadeLimits
 pub mod Filled
 pub mod Started
 pub mod Halves
+pub mod MadePlain

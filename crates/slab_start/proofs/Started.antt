@@ -1,14 +1,15 @@
 -- The plan of filled slabs is legal, in order, and within the limit.
-use Rattle.std.proofs.Common.{◌≡◌, ℕ, zero, suc, ◌+◌, ◌<◌, ◌≤◌, ℤ, pos, negsuc, Bool, true, false, cond, not, ◌&&◌, ◌||◌, eqb, ltb, leb, List, [], ◌∷◌, length, get_or, map, min, max, count_by, sum_by, All, Option, Some, None, refl, sym, ap, ap₂, ◌∙◌, subst, inl, inr, arith}
-use Rattle.std.specs.Option.{option_map}
-use Rattle.std.specs.List.{filter, fold, list_any, position_or_len, range_with_len, Contains}
+use Rattle.std.proofs.Common.{◌≡◌, ℕ, zero, suc, ◌+◌, ◌<◌, ◌≤◌, ℤ, pos, negsuc, Bool, true, false, cond, not, ◌&&◌, ◌||◌, eqb, ltb, leb, List, [], ◌∷◌, ◌++◌, length, get_or, set, map, min, max, count_by, sum_by, All, Option, Some, None, refl, sym, ap, ap₂, ◌∙◌, subst, inl, inr, arith}
+use Rattle.std.specs.Option.{option_map, option_or}
+use Rattle.std.specs.List.{filter, find, fold, list_any, position, position_or_len, range_with_len, Contains}
 use Rattle.std.specs.List.Sorted.{IsNonDecreasingBy}
 use Rattle.std.proofs.lemmas.Bool.{cases_Bool, cases_eq, eq-eqb, ne_eqb, leb-true, leb-false, false≢true, or_left}
 use Rattle.std.proofs.lemmas.Bool.Decides.{nat_tests}
 use Rattle.std.proofs.lemmas.Int.{ints}
-use Rattle.std.proofs.lemmas.List.{length-map, get_or-map}
-use Rattle.std.proofs.lemmas.Option.{same_Some}
-use Rattle.std.proofs.lemmas.List.Sums.{sum_by-cons, sum_by-le-sum_by}
+use Rattle.std.proofs.lemmas.List.{length-map, length-set, length_push, get_or-map}
+use Rattle.std.proofs.lemmas.List.Edits.{length-insert}
+use Rattle.std.proofs.lemmas.Option.{same_Some, option_and_then_some}
+use Rattle.std.proofs.lemmas.List.Sums.{sum_by-cons, sum_by-le-sum_by, prefix_len-le-length}
 use Rattle.std.proofs.lemmas.List.Sorted.{IsNonDecreasingBy-short}
 use Rattle.std.proofs.lemmas.List.Elements.{All-nil, All-head, All-tail, All-get_or, All-filter, All-contains_itself, filter_passes}
 use Rattle.mill_model.specs.declared.kind.Kind.{Kind}
@@ -22,8 +23,8 @@ use Rattle.mill_model.specs.Columns.{Column, Rises, IsLegalColumn, IsInStock, Fi
 use Rattle.mill_model.proofs.Slabs.{places_rise, has_places, once_same}
 use Rattle.mill_model.proofs.Rising.{same_members}
 use Rattle.slab_start.specs.Lists.{put_before}
-use Rattle.slab_start.specs.Slabs.{least_order, least_size, closed_kind, closed}
-use Rattle.slab_start.specs.FirstFit.{is_lighter, by_weight, can_start, kinds_of, places_of_orders, plan_of, closed_slabs, place_orders, first_fit}
+use Rattle.slab_start.specs.Slabs.{empty, with_order, takes, least_order, least_size, closed_kind, closed}
+use Rattle.slab_start.specs.FirstFit.{is_lighter, by_weight, can_start, kinds_of, places_of_orders, plan_of, closed_slabs, kinds_to_open, on_opened, place_order, place_orders}
 use Rattle.slab_start.proofs.PutBefore.{sum_by-put, All-put, sorted-put}
 use Rattle.slab_start.proofs.Ranges.{length-range, get_or-range}
 use Rattle.slab_start.proofs.Counts.{one, none, sum_by-map, counted-cons, first_within, first_is_only, count-range}
@@ -69,7 +70,7 @@ same_bars : (m : Mill) (c : Column) (kind : Kind) (orders : List ℕ) → list_a
 same_bars m c (New u) orders = refl
 same_bars m c (Old s) orders = refl
 
-same_new : (m : Mill) (c : Column) (kind : Kind) → is_new (closed_kind m c kind) ≡ is_new kind
+pub same_new : (m : Mill) (c : Column) (kind : Kind) → is_new (closed_kind m c kind) ≡ is_new kind
 same_new m c (New u) = refl
 same_new m c (Old s) = refl
 
@@ -226,3 +227,32 @@ filled_first m limit can = record {
 
 pub first_fit_starts : (m : Mill) (limit : Option ℤ) (filled : List Column) → IsInLimits m → can_start limit ≡ true → place_orders m limit (by_weight m) [] ≡ Some filled → IsStart m limit (plan_of (length m.orders) (closed_slabs m filled))
 first_fit_starts m limit filled limits can e = start m limit (closed_slabs m filled) (close_all m limit filled limits (put_orders m limit (by_weight m) [] filled (filled_first m limit can) e))
+
+-- ---- there are no more slabs than orders
+
+length-put : {X : Type 0} (test : X → Bool) (x : X) (xs : List X) → length (put_before test x xs) ≡ length xs + 1
+length-put test x xs = length-insert xs (position_or_len test xs) x (prefix_len-le-length (λ y. not (test y)) xs)
+
+length-weight : (m : Mill) (orders numbers : List ℕ) → length (fold (λ os o. put_before (is_lighter m o) o os) orders numbers) ≡ length orders + length numbers
+length-weight m orders [] = omega arith
+length-weight m orders (o ∷ numbers) = omega (arith, length-weight m (put_before (is_lighter m o) o orders) numbers, length-put (is_lighter m o) o orders)
+
+pub length-by_weight : (m : Mill) → length (by_weight m) ≡ length m.orders
+length-by_weight m = omega (arith, length-weight m [] (range_with_len 0 (length m.orders)), length-range 0 (length m.orders))
+
+one_slab_more : (m : Mill) (limit : Option ℤ) (o : ℕ) (slabs next : List Column) → place_order m limit o slabs ≡ Some next → length next ≤ length slabs + 1
+one_slab_more m limit o slabs next e = by_first (position (takes m o) slabs) e
+  where
+    by_opened : (found : Option Kind) → option_map (λ kind. slabs ++ with_order o (empty kind) ∷ []) found ≡ Some next → length next ≤ length slabs + 1
+    by_opened None q = cc
+    by_opened (Some kind) q = omega (arith, ap length (same_Some (slabs ++ with_order o (empty kind) ∷ []) next q), length_push slabs (with_order o (empty kind)))
+
+    by_first : (found : Option ℕ) → option_or (option_map (λ k. set slabs k (with_order o (get_or slabs k (empty (New 0))))) found) (on_opened m limit o slabs) ≡ Some next → length next ≤ length slabs + 1
+    by_first None q = by_opened (find (λ kind. takes m o (empty kind)) (kinds_to_open m limit slabs)) q
+    by_first (Some k) q = omega (arith, ap length (same_Some (set slabs k (with_order o (get_or slabs k (empty (New 0))))) next q), length-set slabs k (with_order o (get_or slabs k (empty (New 0)))))
+
+pub few_slabs : (m : Mill) (limit : Option ℤ) (orders : List ℕ) (slabs filled : List Column) → place_orders m limit orders slabs ≡ Some filled → length filled ≤ length slabs + length orders
+few_slabs m limit [] slabs filled e = omega (arith, ap length (same_Some slabs filled e))
+few_slabs m limit (o ∷ orders) slabs filled e =
+    option_and_then_some (place_orders m limit orders) (place_order m limit o slabs) filled e
+    (λ next p q. let more : length next ≤ length slabs + 1 = one_slab_more m limit o slabs next p in let rest : length filled ≤ length next + length orders = few_slabs m limit orders next filled q in omega arith)

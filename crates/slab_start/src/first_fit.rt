@@ -1,3 +1,6 @@
+ghost use Rattle.std.specs.Prelude.{◌≡◌};
+ghost use Rattle.slab_start.specs.FirstFit.{can_start as can_start_within};
+
 use crate::filling::fill;
 use crate::plan::plan_of_slabs;
 use crate::weights::orders_by_weight;
@@ -35,7 +38,7 @@ impl Starter for FirstFit {
         ensures legal { IfOk result (λ answer. IfSome answer (IsStart mill.now count)) }
         ensures as_told { IfOk result (λ answer. answer ≡ first_fit mill.now count) }
     {
-        if count.is_some_and(|limit| limit < 0) {
+        if !can_start(count) {
             return Ok(None);
         }
         let orders = orders_by_weight(alloc, mill)?;
@@ -43,5 +46,15 @@ impl Starter for FirstFit {
             Some(slabs) => Ok(Some(plan_of_slabs(alloc, mill, slabs)?)),
             None => Ok(None),
         }
+    }
+}
+
+// Whether a plan may have so many new slabs: fewer than none it can't have.
+fn can_start(count: Option<i64>) -> bool
+    ensures { result ≡ can_start_within count }
+{
+    match count {
+        None => true,
+        Some(limit) => limit >= 0,
     }
 }
