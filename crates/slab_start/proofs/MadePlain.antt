@@ -17,7 +17,7 @@ use Rattle.mill_model.specs.Columns.{Column, order_at, load, size_of}
 use Rattle.slab_start.specs.Slabs.{closed, closed_kind, least_size}
 use Rattle.slab_start.specs.FirstFit.{by_weight, kinds_of, closed_slabs, plan_of, first_fit}
 use Rattle.slab_start.specs.Made.{draw, first_weight, made_weight, made_order, made_mill}
-use Rattle.slab_start.specs.Plain.{IsPlainMill}
+use Rattle.slab_start.specs.Plain.{IsMadePlain}
 use Rattle.slab_start.proofs.Ranges.{length-range, get_or-range, fold_range_more}
 use Rattle.slab_start.proofs.Counts.{one, none, sum_by-map}
 use Rattle.slab_start.proofs.MadeLimits.{first_between, weight_between}
@@ -87,8 +87,8 @@ module _ (orders seed : ℕ) where
         arith,
         sum_range_more (weighs x) (2 * j + 1),
         sum_range_more (weighs x) (2 * j),
-        ap (λ w. cond (eqb w x) 1 0) (even_weight j h),
-        ap (λ w. cond (eqb w x) 1 0) (odd_weight j),
+        ap {B = ℕ} (λ w. cond (eqb w x) 1 0) (even_weight j h),
+        ap {B = ℕ} (λ w. cond (eqb w x) 1 0) (odd_weight j),
       )
 
   record IsBalanced (k : ℕ) : Type 0 where
@@ -104,14 +104,14 @@ module _ (orders seed : ℕ) where
           among_pair x j h,
           among_pair (44 - x) j h,
           b.pairs x low high,
-          ap (λ (t : Bool). cond t 1 0) (same_test (first_weight seed (j + 1)) x (44 - first_weight seed (j + 1)) (44 - x) (λ e. omega arith) (λ e. omega (arith, a.1))),
-          ap (λ (t : Bool). cond t 1 0) (same_test (44 - first_weight seed (j + 1)) x (first_weight seed (j + 1)) (44 - x) (λ e. omega (arith, a.1)) (λ e. omega arith)),
+          ap {B = ℕ} (λ (t : Bool). cond t 1 0) (same_test (first_weight seed (j + 1)) x (44 - first_weight seed (j + 1)) (44 - x) (λ e. omega arith) (λ e. omega (arith, a.1))),
+          ap {B = ℕ} (λ (t : Bool). cond t 1 0) (same_test (44 - first_weight seed (j + 1)) x (first_weight seed (j + 1)) (44 - x) (λ e. omega (arith, a.1)) (λ e. omega arith)),
         );
         even = (b.even.0 + cond (eqb (first_weight seed (j + 1)) 22) 1 0, omega (
           arith,
           among_pair 22 j h,
           b.even.1,
-          ap (λ (t : Bool). cond t 1 0) (same_test (first_weight seed (j + 1)) 22 (44 - first_weight seed (j + 1)) 22 (λ e. omega arith) (λ e. omega (arith, a.1))),
+          ap {B = ℕ} (λ (t : Bool). cond t 1 0) (same_test (first_weight seed (j + 1)) 22 (44 - first_weight seed (j + 1)) 22 (λ e. omega arith) (λ e. omega (arith, a.1))),
         ));
       }
 
@@ -128,11 +128,38 @@ module _ (orders seed : ℕ) where
         let odd : 2 * (orders / 2) + 1 ≡ orders = omega arith in
         let b : IsBalanced (2 * (orders / 2)) = pairs_balanced (orders / 2) (omega arith) in
         let more : (x : ℕ) → x < 44 → among x (2 * (orders / 2) + 1) ≡ among x (2 * (orders / 2)) =
-        λ x h. omega (arith, sum_range_more (weighs x) (2 * (orders / 2)), ap (λ w. cond (eqb w x) 1 0) (last_weight (orders / 2) odd), none (eqb 44 x) (ne_eqb 44 x (λ e. omega arith))) in
+        λ x h. omega (arith, sum_range_more (weighs x) (2 * (orders / 2)), ap {B = ℕ} (λ w. cond (eqb w x) 1 0) (last_weight (orders / 2) odd), none (eqb 44 x) (ne_eqb 44 x (λ e. omega arith))) in
         subst IsBalanced odd (record {
           pairs = λ x low high. more x (omega arith) ∙ b.pairs x low high ∙ sym (more (44 - x) (omega arith));
           even = (b.even.0, more 22 (omega arith) ∙ b.even.1);
         })
+  ]
+
+  -- ---- what they weigh together
+
+  pairs_weigh : (j : ℕ) → 2 * j ≤ orders → sum_by (made_weight orders seed) (range_with_len 0 (2 * j)) ≡ 44 * j
+  pairs_weigh zero h = refl
+  pairs_weigh (suc j) h =
+      let e : 2 * suc j ≡ 2 * j + 1 + 1 = omega arith in
+      let a = first_between seed (j + 1) in
+      ap (λ k. sum_by (made_weight orders seed) (range_with_len 0 k)) e
+      ∙ omega (
+        arith,
+        sum_range_more (made_weight orders seed) (2 * j + 1),
+        sum_range_more (made_weight orders seed) (2 * j),
+        even_weight j (omega arith),
+        odd_weight j,
+        a.1,
+        pairs_weigh j (omega arith),
+      )
+
+  all_weigh : sum_by (made_weight orders seed) (range_with_len 0 orders) ≡ 44 * ((orders + 1) / 2)
+  all_weigh = elim (cases_eq (2 * (orders / 2)) orders) [
+    | inl e ↦ ap (λ k. sum_by (made_weight orders seed) (range_with_len 0 k)) (sym e) ∙ pairs_weigh (orders / 2) (omega arith) ∙ omega arith
+    | inr ne ↦
+        let odd : 2 * (orders / 2) + 1 ≡ orders = omega arith in
+        ap (λ k. sum_by (made_weight orders seed) (range_with_len 0 k)) (sym odd)
+        ∙ omega (arith, sum_range_more (made_weight orders seed) (2 * (orders / 2)), last_weight (orders / 2) odd, pairs_weigh (orders / 2) (omega arith))
   ]
 
   -- ---- first fit on the mill
@@ -152,7 +179,7 @@ module _ (orders seed : ℕ) where
       omega (arith, sum_by-weight (made_mill orders seed) f [] (range_with_len 0 (length (map (made_order orders seed) (range_with_len 0 orders)))), all, sum_range_same f g orders same)
 
   counted : (x : ℕ) → orders_of (made_mill orders seed) x (by_weight (made_mill orders seed)) ≡ among x orders
-  counted x = sum_of (λ o. cond (eqb (weight (made_mill orders seed) o) x) 1 0) (weighs x) (λ o h. ap (λ w. cond (eqb w x) 1 0) (weight_is o h))
+  counted x = sum_of (λ o. cond (eqb (weight (made_mill orders seed) o) x) 1 0) (weighs x) (λ o h. ap {B = ℕ} (λ w. cond (eqb w x) 1 0) (weight_is o h))
 
   total_is : sum_by (weight (made_mill orders seed)) (by_weight (made_mill orders seed)) ≡ total_weight (made_mill orders seed)
   total_is =
@@ -179,10 +206,13 @@ module _ (orders seed : ℕ) where
         subst (λ o. (0 < weight (made_mill orders seed) o) × (weight (made_mill orders seed) o ≤ 44)) (sym at) (between k within));
   }
 
+  total_weighs : total_weight (made_mill orders seed) ≡ 44 * ((orders + 1) / 2)
+  total_weighs = sum_by-map (λ (order : Order). order.weight) (made_order orders seed) (range_with_len 0 orders) ∙ all_weigh
+
   full_size : (c : Column) → c.kind ≡ New 44 → load (made_mill orders seed) c.orders ≡ 44 → size_of (made_mill orders seed) (closed_kind (made_mill orders seed) c c.kind) ≡ 44
   full_size c kind full = ap (λ (k : Kind). size_of (made_mill orders seed) (closed_kind (made_mill orders seed) c k)) kind ∙ ap (least_size (made_mill orders seed)) full
 
-  pub made_is_plain : IsPlainMill (made_mill orders seed)
+  pub made_is_plain : IsMadePlain orders seed
   made_is_plain =
       let it = all_halves (made_mill orders seed) refl refl (by_weight (made_mill orders seed)) [] halves in
       let slabs : List Column = it.0 in
@@ -194,13 +224,16 @@ module _ (orders seed : ℕ) where
       let loads : sum_by (λ (c : Column). load (made_mill orders seed) c.orders) it.0 ≡ length it.0 * 44 = sum_by_each (λ (c : Column). load (made_mill orders seed) c.orders) 44 it.0 (λ k d h. (full k d h).1) in
       let total : total_weight (made_mill orders seed) ≡ length it.0 * 44 = omega (arith, total_is, it.2.weights, loads) in
       let news : count_by is_new (kinds_of (closed_slabs (made_mill orders seed) it.0)) ≡ length it.0 =
-      sum_by-map (λ kind. cond (is_new kind) 1 0) (λ (c : Column). c.kind) (closed_slabs (made_mill orders seed) it.0)
+      sum_by-map {B = ℕ} (λ kind. cond (is_new kind) 1 0) (λ (c : Column). c.kind) (closed_slabs (made_mill orders seed) it.0)
       ∙ counted-closed (made_mill orders seed) is_new it.0 (same_new (made_mill orders seed))
-      ∙ sum_by_each (λ (c : Column). cond (is_new c.kind) 1 0) 1 it.0 (λ k d h. ap (λ kind. cond (is_new kind) 1 0) (full k d h).0)
+      ∙ sum_by_each (λ (c : Column). cond (is_new c.kind) 1 0) 1 it.0 (λ k d h. ap {B = ℕ} (λ kind. cond (is_new kind) 1 0) (full k d h).0)
       ∙ omega arith in
       record {
-        plan = plan_of (length (map (made_order orders seed) (range_with_len 0 orders))) (closed_slabs (made_mill orders seed) it.0);
-        first = ap (option_map (λ slabs. plan_of (length (map (made_order orders seed) (range_with_len 0 orders))) (closed_slabs (made_mill orders seed) slabs))) it.1;
-        loss = omega (arith, sizes, total);
-        refuted = inr (inr (omega (arith, ints, news, total)));
+        plain = record {
+          plan = plan_of (length (map (made_order orders seed) (range_with_len 0 orders))) (closed_slabs (made_mill orders seed) it.0);
+          first = ap (option_map (λ slabs. plan_of (length (map (made_order orders seed) (range_with_len 0 orders))) (closed_slabs (made_mill orders seed) slabs))) it.1;
+          loss = omega (arith, sizes, total);
+          refuted = inr (inr (omega (arith, ints, news, total)));
+        };
+        count = omega (arith, news, total, total_weighs);
       }
