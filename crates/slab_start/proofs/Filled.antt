@@ -1,12 +1,12 @@
 -- What the filling of slabs keeps, order by order.
-use Rattle.std.proofs.Common.{◌≡◌, ℕ, suc, ◌+◌, ◌<◌, ◌≤◌, ◌⊎◌, ℤ, pos, negsuc, Bool, true, false, cond, not, ◌&&◌, ◌||◌, eqb, ltb, leb, List, [], ◌∷◌, ◌++◌, length, get_or, set, map, count_by, All, Option, Some, None, refl, sym, ap, ◌∙◌, subst, inl, inr, arith}
+use Rattle.std.proofs.Common.{◌≡◌, ℕ, ◌+◌, ◌<◌, ◌≤◌, ℤ, pos, negsuc, Bool, true, false, cond, not, ◌&&◌, eqb, ltb, leb, List, [], ◌∷◌, ◌++◌, length, get_or, set, count_by, All, Option, Some, None, refl, sym, ap, ◌∙◌, subst, inl, inr, arith}
 use Rattle.std.specs.Option.{option_map, option_or}
 use Rattle.std.specs.List.{filter, find, list_any, position, position_or_len, range_with_len}
-use Rattle.std.proofs.lemmas.Bool.{cases_Bool, cases_eq, and_parts, or_parts, or_left, eq-eqb, ne_eqb, eqb-true, leb-true, ltb-true, not-true, false≢true, cond_both}
+use Rattle.std.proofs.lemmas.Bool.{cases_Bool, and_parts, or_parts, eq-eqb, eqb-true, leb-true, ltb-true, not-true, false≢true}
 use Rattle.std.proofs.lemmas.Int.{ints}
 use Rattle.std.proofs.lemmas.Option.{same_Some, option_and_then_some}
 use Rattle.std.proofs.lemmas.List.Edits.{length-insert}
-use Rattle.std.proofs.lemmas.List.Sums.{sum_by-cons, sum_by-set, sum_by_push, prefix_len-le-length}
+use Rattle.std.proofs.lemmas.List.Sums.{sum_by-set, sum_by_push, prefix_len-le-length}
 use Rattle.std.proofs.lemmas.List.Quantifiers.{position-Some}
 use Rattle.std.proofs.lemmas.List.Elements.{All-nil, All-cons, All-head, All-tail, All-get_or, All-set, All-push, All-append, All-map, All-filter, filter_passes}
 use Rattle.mill_model.specs.declared.kind.Kind.{Kind}
@@ -16,7 +16,6 @@ use Rattle.mill_model.specs.Limits.{AtMost}
 use Rattle.mill_model.specs.Plain.{greatest_size}
 use Rattle.mill_model.specs.Plans.{is_new}
 use Rattle.mill_model.specs.Columns.{Column, Rises, has, has_barred, is_barred, is_old, load, size_of, colours_of}
-use Rattle.slab_start.specs.Lists.{put_before}
 use Rattle.slab_start.specs.Slabs.{empty, with_order, takes}
 use Rattle.slab_start.specs.FirstFit.{is_below, kinds_of, free_kinds, kinds_to_open, on_opened, place_order, place_orders}
 use Rattle.slab_start.proofs.PutBefore.{any-put, Rises-put}
@@ -127,9 +126,9 @@ module _ (m : Mill) (limit : Option ℤ) (slabs : List Column) where
       All-append (IsOpenable m limit slabs) (cond (is_below (count_by is_new (kinds_of slabs)) limit) (New (greatest_size m) ∷ []) []) (free_kinds m slabs)
       (new_openable (is_below (count_by is_new (kinds_of slabs)) limit) (λ e. e))
       (All-map (IsOpenable m limit slabs) Old (filter free numbers)
-        (λ k d h. old_openable (get_or (filter free numbers) k d)
-          (All-filter free (λ s. s < length m.yard) numbers (λ i e l. omega (arith, get_or-range 0 (length m.yard) i e (omega (arith, length-range 0 (length m.yard))), length-range 0 (length m.yard))) k d h)
-          (filter_passes free numbers k d h)))
+      (λ k d h. old_openable (get_or (filter free numbers) k d)
+      (All-filter free (λ s. s < length m.yard) numbers (λ i e l. omega (arith, get_or-range 0 (length m.yard) i e (omega (arith, length-range 0 (length m.yard))), length-range 0 (length m.yard))) k d h)
+      (filter_passes free numbers k d h)))
 
 below_limit : (n : ℕ) (limit : Option ℤ) → is_below n limit ≡ true → AtMost (Some (pos (n + 1))) limit
 below_limit n None e = tt

@@ -1,19 +1,18 @@
 -- First fit where the weights make up pairs of 44: each slab is filled.
-use Rattle.std.proofs.Common.{◌≡◌, ℕ, zero, suc, ◌+◌, ◌-◌, ◌*◌, ◌<◌, ◌≤◌, ◌⊎◌, ℤ, pos, negsuc, Bool, true, false, cond, not, ◌&&◌, ◌||◌, eqb, ltb, leb, List, [], ◌∷◌, ◌++◌, length, get_or, set, map, count_by, sum_by, All, Option, Some, None, refl, sym, ap, ◌∙◌, subst, inl, inr, arith}
+use Rattle.std.proofs.Common.{◌≡◌, ℕ, ◌+◌, ◌-◌, ◌<◌, ◌≤◌, ◌⊎◌, Bool, true, false, cond, ◌&&◌, eqb, ltb, leb, List, [], ◌∷◌, ◌++◌, length, get_or, set, map, count_by, sum_by, All, Option, Some, None, refl, sym, ap, ◌∙◌, subst, inl, inr, arith}
 use Rattle.std.specs.Option.{option_map, option_or, option_and_then}
-use Rattle.std.specs.List.{find, fold, position, position_or_len}
-use Rattle.std.proofs.lemmas.Bool.{cases_Bool, cases_eq, cases_lt, cases_order, and_parts, and_from, eq-eqb, ne_eqb, eqb-true, eqb-false, leb-true, le-leb, lt-leb, ltb-true, ltb-false, lt-ltb, both_ways, cond-true, cond-false}
-use Rattle.std.proofs.lemmas.List.Sums.{sum_by-cons, sum_by-set, sum_by_push, passes_at_first, fails_before_first, get_or-le-sum_by}
+use Rattle.std.specs.List.{fold, position, position_or_len}
+use Rattle.std.proofs.lemmas.Bool.{cases_Bool, cases_eq, cases_lt, cases_order, and_parts, eq-eqb, ne_eqb, eqb-true, eqb-false, leb-true, le-leb, ltb-true, ltb-false, lt-ltb, both_ways, cond-true}
+use Rattle.std.proofs.lemmas.List.Sums.{sum_by-cons, sum_by-set, sum_by_push, passes_at_first, get_or-le-sum_by}
 use Rattle.std.proofs.lemmas.List.Elements.{All-nil, All-cons, All-head, All-tail, All-get_or, All-set, All-push}
 use Rattle.std.proofs.lemmas.List.Quantifiers.{position-Some}
-use Rattle.mill_model.specs.declared.kind.Kind.{Kind}
-use Rattle.mill_model.specs.declared.kind.Kind.TheVariants.{New, Old}
+use Rattle.mill_model.specs.declared.kind.Kind.TheVariants.{New}
 use Rattle.mill_model.specs.Mill.{Mill}
 use Rattle.mill_model.specs.Plain.{greatest_size}
-use Rattle.mill_model.specs.Columns.{Column, has, order_at, load, different, colours_of}
+use Rattle.mill_model.specs.Columns.{Column, order_at, load, different, colours_of}
 use Rattle.slab_start.specs.Lists.{put_before}
 use Rattle.slab_start.specs.Slabs.{empty, with_order, takes}
-use Rattle.slab_start.specs.FirstFit.{is_lighter, by_weight, kinds_to_open, free_kinds, on_opened, place_order, place_orders}
+use Rattle.slab_start.specs.FirstFit.{is_lighter, by_weight, on_opened, place_order, place_orders}
 use Rattle.slab_start.proofs.PutBefore.{sum_by-put, All-put, put-cons}
 use Rattle.slab_start.proofs.Loads.{different-put}
 use Rattle.slab_start.proofs.Counts.{one, none, counted-cons, none_passes, first_within}
@@ -212,10 +211,13 @@ module _ (m : Mill) where
         let more : (x : ℕ) → slabs_of x (slabs ++ with_order o (empty (New 44)) ∷ []) ≡ slabs_of x slabs + cond (eqb (weight o) x) 1 0 =
         λ x. sum_by_push (λ (s : Column). cond (eqb (load m s.orders) x) 1 0) slabs (with_order o (empty (New 44))) ∙ ap (λ w. slabs_of x slabs + cond (eqb w x) 1 0) new_load in
         record {
-          each = All-push IsPart slabs (with_order o (empty (New 44))) f.each (record { new = refl; part = elim (cases_eq (weight o) 44) [
-            | inl full ↦ inl (new_load ∙ full)
-            | inr ne ↦ inr (record { order = o; alone = refl; half = omega arith; below = omega (arith, light.1) })
-          ] });
+          each = All-push IsPart slabs (with_order o (empty (New 44))) f.each (record {
+            new = refl;
+            part = elim (cases_eq (weight o) 44) [
+              | inl full ↦ inl (new_load ∙ full)
+              | inr ne ↦ inr (record { order = o; alone = refl; half = omega arith; below = omega (arith, light.1) })
+            ];
+          });
           pairs = λ x low high. omega (arith, f.pairs x low high, left_with x, left_with (44 - x), more (44 - x), none (eqb (weight o) x) (ne_eqb (weight o) x (λ q. omega arith)));
           even = (f.even.0, omega (arith, f.even.1, left_with 22, more 22));
           once = elim (cases_eq (weight o) 22) [
@@ -254,11 +256,13 @@ module _ (m : Mill) where
   -- at the end each slab is full
   pub all_full : (slabs : List Column) → AreHalves [] slabs → All (λ (c : Column). (c.kind ≡ New 44) × (load m c.orders ≡ 44)) slabs
   all_full slabs f k d h =
-      let part : IsPart (get_or slabs k d) = f.each k d h in
-      (part.new, elim part.part [
-        | inl e ↦ e
-        | inr s ↦ absurd (eqb-false (load m (get_or slabs k d).orders) (load m (get_or slabs k d).orders) (none_passes (λ (c : Column). eqb (load m c.orders) (load m (get_or slabs k d).orders)) slabs k d (nowhere (load m (get_or slabs k d).orders) s.half s.below) h) refl)
-      ])
+      let part : IsPart (get_or slabs k d) = f.each k d h in (
+        part.new,
+        elim part.part [
+          | inl e ↦ e
+          | inr s ↦ absurd (eqb-false (load m (get_or slabs k d).orders) (load m (get_or slabs k d).orders) (none_passes (λ (c : Column). eqb (load m c.orders) (load m (get_or slabs k d).orders)) slabs k d (nowhere (load m (get_or slabs k d).orders) s.half s.below) h) refl)
+        ],
+      )
     where
       nowhere : (l : ℕ) → 22 ≤ l → l < 44 → slabs_of l slabs ≡ 0
       nowhere l half below = elim (cases_eq l 22) [

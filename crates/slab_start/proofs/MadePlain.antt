@@ -1,8 +1,8 @@
 -- First fit fills each slab of a made mill.
-use Rattle.std.proofs.Common.{◌≡◌, ℕ, zero, suc, ◌+◌, ◌-◌, ◌*◌, ◌/◌, ◌%◌, ◌<◌, ◌≤◌, ℤ, pos, ◌-ℤ◌, ◌*ℤ◌, ◌+ℤ◌, Bool, true, false, cond, eqb, List, [], ◌∷◌, length, get_or, map, count_by, sum_by, All, Option, Some, None, refl, sym, ap, ◌∙◌, subst, inl, inr, arith}
+use Rattle.std.proofs.Common.{◌≡◌, ℕ, zero, suc, ◌+◌, ◌-◌, ◌*◌, ◌/◌, ◌%◌, ◌<◌, ◌≤◌, Bool, cond, eqb, List, [], ◌∷◌, length, get_or, map, count_by, sum_by, All, refl, sym, ap, ◌∙◌, subst, inl, inr, arith}
 use Rattle.std.specs.Option.{option_map}
 use Rattle.std.specs.List.{range_with_len}
-use Rattle.std.proofs.lemmas.Bool.{cases_eq, cases_order, eq-eqb, ne_eqb, cond-true, cond-false}
+use Rattle.std.proofs.lemmas.Bool.{cases_eq, eq-eqb, ne_eqb, cond-true, cond-false}
 use Rattle.std.proofs.lemmas.Int.{ints}
 use Rattle.std.proofs.lemmas.List.{get_or-map, length-map}
 use Rattle.std.proofs.lemmas.List.Sums.{sum_by-cons}
@@ -10,19 +10,18 @@ use Rattle.std.proofs.lemmas.List.Elements.{All-nil, All-head, All-tail}
 use Rattle.mill_model.specs.declared.order.Order.{Order}
 use Rattle.mill_model.specs.declared.kind.Kind.{Kind}
 use Rattle.mill_model.specs.declared.kind.Kind.TheVariants.{New}
-use Rattle.mill_model.specs.Mill.{Mill}
-use Rattle.mill_model.specs.Plain.{greatest_size, total_weight}
-use Rattle.mill_model.specs.Plans.{is_new, sums_of}
-use Rattle.mill_model.specs.Columns.{Column, order_at, load, size_of}
+use Rattle.mill_model.specs.Plain.{total_weight}
+use Rattle.mill_model.specs.Plans.{is_new}
+use Rattle.mill_model.specs.Columns.{Column, load, size_of}
 use Rattle.slab_start.specs.Slabs.{closed, closed_kind, least_size}
-use Rattle.slab_start.specs.FirstFit.{by_weight, kinds_of, closed_slabs, plan_of, first_fit}
-use Rattle.slab_start.specs.Made.{draw, first_weight, made_weight, made_order, made_mill}
+use Rattle.slab_start.specs.FirstFit.{by_weight, kinds_of, closed_slabs, plan_of}
+use Rattle.slab_start.specs.Made.{first_weight, made_weight, made_order, made_mill}
 use Rattle.slab_start.specs.Plain.{IsMadePlain}
 use Rattle.slab_start.proofs.Ranges.{length-range, get_or-range, fold_range_more}
-use Rattle.slab_start.proofs.Counts.{one, none, sum_by-map}
+use Rattle.slab_start.proofs.Counts.{none, sum_by-map}
 use Rattle.slab_start.proofs.MadeLimits.{first_between, weight_between}
 use Rattle.slab_start.proofs.Started.{sum_by-weight, All-weight, sum_by-closed, counted-closed, same_new}
-use Rattle.slab_start.proofs.Halves.{weight, orders_of, slabs_of, falls_all, AreHalves, all_halves, all_full}
+use Rattle.slab_start.proofs.Halves.{weight, orders_of, falls_all, AreHalves, all_halves, all_full}
 
 -- ---- sums over ranges
 
@@ -107,12 +106,15 @@ module _ (orders seed : ℕ) where
           ap {B = ℕ} (λ (t : Bool). cond t 1 0) (same_test (first_weight seed (j + 1)) x (44 - first_weight seed (j + 1)) (44 - x) (λ e. omega arith) (λ e. omega (arith, a.1))),
           ap {B = ℕ} (λ (t : Bool). cond t 1 0) (same_test (44 - first_weight seed (j + 1)) x (first_weight seed (j + 1)) (44 - x) (λ e. omega (arith, a.1)) (λ e. omega arith)),
         );
-        even = (b.even.0 + cond (eqb (first_weight seed (j + 1)) 22) 1 0, omega (
-          arith,
-          among_pair 22 j h,
-          b.even.1,
-          ap {B = ℕ} (λ (t : Bool). cond t 1 0) (same_test (first_weight seed (j + 1)) 22 (44 - first_weight seed (j + 1)) 22 (λ e. omega arith) (λ e. omega (arith, a.1))),
-        ));
+        even = (
+          b.even.0 + cond (eqb (first_weight seed (j + 1)) 22) 1 0,
+          omega (
+            arith,
+            among_pair 22 j h,
+            b.even.1,
+            ap {B = ℕ} (λ (t : Bool). cond t 1 0) (same_test (first_weight seed (j + 1)) 22 (44 - first_weight seed (j + 1)) 22 (λ e. omega arith) (λ e. omega (arith, a.1))),
+          ),
+        );
       }
 
   pairs_balanced : (j : ℕ) → 2 * j ≤ orders → IsBalanced (2 * j)
@@ -198,8 +200,8 @@ module _ (orders seed : ℕ) where
     weights = omega arith;
     falls = falls_all (made_mill orders seed) [] (range_with_len 0 (length (map (made_order orders seed) (range_with_len 0 orders)))) tt;
     range = All-weight (made_mill orders seed) (λ o. (0 < weight (made_mill orders seed) o) × (weight (made_mill orders seed) o ≤ 44)) [] (range_with_len 0 (length (map (made_order orders seed) (range_with_len 0 orders))))
-      (All-nil (λ o. (0 < weight (made_mill orders seed) o) × (weight (made_mill orders seed) o ≤ 44)))
-      (λ k d h.
+        (All-nil (λ o. (0 < weight (made_mill orders seed) o) × (weight (made_mill orders seed) o ≤ 44)))
+        (λ k d h.
         let count : length (map (made_order orders seed) (range_with_len 0 orders)) ≡ orders = count_orders in
         let within : k < orders = omega (arith, length-range 0 (length (map (made_order orders seed) (range_with_len 0 orders)))) in
         let at : get_or (range_with_len 0 (length (map (made_order orders seed) (range_with_len 0 orders)))) k d ≡ k = get_or-range 0 (length (map (made_order orders seed) (range_with_len 0 orders))) k d (omega arith) ∙ omega arith in
@@ -224,7 +226,7 @@ module _ (orders seed : ℕ) where
       let loads : sum_by (λ (c : Column). load (made_mill orders seed) c.orders) it.0 ≡ length it.0 * 44 = sum_by_each (λ (c : Column). load (made_mill orders seed) c.orders) 44 it.0 (λ k d h. (full k d h).1) in
       let total : total_weight (made_mill orders seed) ≡ length it.0 * 44 = omega (arith, total_is, it.2.weights, loads) in
       let news : count_by is_new (kinds_of (closed_slabs (made_mill orders seed) it.0)) ≡ length it.0 =
-      sum_by-map {B = ℕ} (λ kind. cond (is_new kind) 1 0) (λ (c : Column). c.kind) (closed_slabs (made_mill orders seed) it.0)
+      sum_by-map (λ kind. cond (is_new kind) 1 0) (λ (c : Column). c.kind) (closed_slabs (made_mill orders seed) it.0)
       ∙ counted-closed (made_mill orders seed) is_new it.0 (same_new (made_mill orders seed))
       ∙ sum_by_each (λ (c : Column). cond (is_new c.kind) 1 0) 1 it.0 (λ k d h. ap {B = ℕ} (λ kind. cond (is_new kind) 1 0) (full k d h).0)
       ∙ omega arith in

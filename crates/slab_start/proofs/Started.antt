@@ -1,9 +1,9 @@
 -- The plan of filled slabs is legal, in order, and within the limit.
-use Rattle.std.proofs.Common.{◌≡◌, ℕ, zero, suc, ◌+◌, ◌<◌, ◌≤◌, ℤ, pos, negsuc, Bool, true, false, cond, not, ◌&&◌, ◌||◌, eqb, ltb, leb, List, [], ◌∷◌, ◌++◌, length, get_or, set, map, min, max, count_by, sum_by, All, Option, Some, None, refl, sym, ap, ap₂, ◌∙◌, subst, inl, inr, arith}
+use Rattle.std.proofs.Common.{◌≡◌, ℕ, suc, ◌+◌, ◌<◌, ◌≤◌, ℤ, pos, negsuc, Bool, true, cond, not, ◌&&◌, eqb, ltb, leb, List, [], ◌∷◌, ◌++◌, length, get_or, set, min, max, count_by, sum_by, All, Option, Some, None, refl, sym, ap, ap₂, ◌∙◌, subst, inl, inr, arith}
 use Rattle.std.specs.Option.{option_map, option_or}
 use Rattle.std.specs.List.{filter, find, fold, list_any, position, position_or_len, range_with_len, Contains}
 use Rattle.std.specs.List.Sorted.{IsNonDecreasingBy}
-use Rattle.std.proofs.lemmas.Bool.{cases_Bool, cases_eq, eq-eqb, ne_eqb, leb-true, leb-false, false≢true, or_left}
+use Rattle.std.proofs.lemmas.Bool.{cases_Bool, eq-eqb, leb-true, leb-false, false≢true, or_left}
 use Rattle.std.proofs.lemmas.Bool.Decides.{nat_tests}
 use Rattle.std.proofs.lemmas.Int.{ints}
 use Rattle.std.proofs.lemmas.List.{length-map, length-set, length_push, get_or-map}
@@ -17,9 +17,9 @@ use Rattle.mill_model.specs.declared.kind.Kind.TheVariants.{New, Old}
 use Rattle.mill_model.specs.Mill.{Mill, IsInLimits}
 use Rattle.mill_model.specs.Limits.{AtMost}
 use Rattle.mill_model.specs.Plain.{greatest_size}
-use Rattle.mill_model.specs.Plans.{Plan, slab, places_of, first_order, is_new, sums_of, IsLegal, IsInOrder}
+use Rattle.mill_model.specs.Plans.{slab, places_of, first_order, is_new, IsLegal, IsInOrder}
 use Rattle.mill_model.specs.Starts.{IsStart}
-use Rattle.mill_model.specs.Columns.{Column, Rises, IsLegalColumn, IsInStock, Fits, has, has_barred, is_barred, is_old, load, size_of, colours_of}
+use Rattle.mill_model.specs.Columns.{Column, Rises, IsLegalColumn, IsInStock, Fits, has, is_barred, is_old, load, size_of}
 use Rattle.mill_model.proofs.Slabs.{places_rise, has_places, once_same}
 use Rattle.mill_model.proofs.Rising.{same_members}
 use Rattle.slab_start.specs.Lists.{put_before}
@@ -27,7 +27,7 @@ use Rattle.slab_start.specs.Slabs.{empty, with_order, takes, least_order, least_
 use Rattle.slab_start.specs.FirstFit.{is_lighter, by_weight, can_start, kinds_of, places_of_orders, plan_of, closed_slabs, kinds_to_open, on_opened, place_order, place_orders}
 use Rattle.slab_start.proofs.PutBefore.{sum_by-put, All-put, sorted-put}
 use Rattle.slab_start.proofs.Ranges.{length-range, get_or-range}
-use Rattle.slab_start.proofs.Counts.{one, none, sum_by-map, counted-cons, first_within, first_is_only, count-range}
+use Rattle.slab_start.proofs.Counts.{one, sum_by-map, first_within, first_is_only, count-range}
 use Rattle.slab_start.proofs.Filled.{IsOpenKind, IsOpenSlab, AreFilled, put_orders}
 
 -- ---- the least size that holds a load
@@ -165,9 +165,9 @@ module _ (m : Mill) (limit : Option ℤ) (slabs : List Column) (closed' : AreClo
       ap₂ (λ (kind : Kind) (os : List ℕ). record { kind = kind; orders = os })
       (get_or-map (λ (c : Column). c.kind) slabs k d (New 0) h)
       (same_members 0 (length m.orders) (places_of k 0 (places_of_orders (length m.orders) slabs)) (get_or slabs k d).orders
-        (places_rise k 0 (length m.orders) (places_of_orders (length m.orders) slabs) (omega (arith, length_place)))
-        (column k d h).rises
-        (λ i l. has_places k 0 (places_of_orders (length m.orders) slabs) i i (omega arith) (omega (arith, length_place)) ∙ ap (λ x. eqb x k) (place_at i l) ∙ first_is_only (λ (c : Column). has c.orders i) slabs k d (closed'.covered i l) h))
+      (places_rise k 0 (length m.orders) (places_of_orders (length m.orders) slabs) (omega (arith, length_place)))
+      (column k d h).rises
+      (λ i l. has_places k 0 (places_of_orders (length m.orders) slabs) i i (omega arith) (omega (arith, length_place)) ∙ ap (λ x. eqb x k) (place_at i l) ∙ first_is_only (λ (c : Column). has c.orders i) slabs k d (closed'.covered i l) h))
 
   legal : IsLegal m (plan_of (length m.orders) slabs)
   legal = record {
@@ -194,7 +194,7 @@ module _ (m : Mill) (limit : Option ℤ) (slabs : List Column) (closed' : AreClo
       let apart : least_order (get_or slabs k d) ≡ least_order (get_or slabs (suc k) d) → ⊥ =
       λ e. let o : ℕ = least_order (get_or slabs k d) in
       let both : k ≡ suc k = once_same (λ (c : Column). has c.orders o) slabs k (suc k) d (omega (arith, closed'.covered o (first_below 0 (length m.orders) (get_or slabs k d).orders a.rises a.fits.some))) (omega arith) l
-        (has_first (get_or slabs k d).orders a.fits.some) (ap (has (get_or slabs (suc k) d).orders) e ∙ has_first (get_or slabs (suc k) d).orders b.fits.some) in
+      (has_first (get_or slabs k d).orders a.fits.some) (ap (has (get_or slabs (suc k) d).orders) e ∙ has_first (get_or slabs (suc k) d).orders b.fits.some) in
       omega arith in
       omega (arith, first_is k d (omega arith), first_is (suc k) d l, up, apart)
 

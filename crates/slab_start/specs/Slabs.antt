@@ -1,5 +1,5 @@
 -- Slabs that are filled: an open new slab counts with the greatest listed size.
-use Rattle.std.specs.Prelude.{ℕ, Bool, ◌&&◌, not, nat_le, nat_lt, List, [], min, slice_index_or}
+use Rattle.std.specs.Prelude.{ℕ, Bool, ◌&&◌, not, nat_le, nat_lt, [], min, slice_index_or}
 use Rattle.std.specs.List.{filter, fold}
 use Rattle.mill_model.specs.declared.kind.Kind.{Kind}
 use Rattle.mill_model.specs.declared.kind.Kind.TheVariants.{New, Old}

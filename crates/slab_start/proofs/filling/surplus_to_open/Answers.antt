@@ -1,4 +1,4 @@
-use Rattle.std.proofs.Common.{◌≡◌, ◌<◌, ◌≤◌, List, length, sym, ap, ◌∙◌, arith}
+use Rattle.std.proofs.Common.{◌<◌, ◌≤◌, length, sym, ap, ◌∙◌, arith}
 use Rattle.slab_start.proofs.Opening.{is_free, holds, surplus_first, surplus_here, surplus_open, surplus_full, found_none}
 use Rattle.slab_start.proofs.filling.surplus_to_open.Goals as goal
 use Rattle.slab_start.proofs.filling.surplus_to_open.Goals.{else-not-is_open-via-then-not-is_open+else-takes, else-not-is_open-via-else-not-is_open}

@@ -1,7 +1,4 @@
-use Rattle.std.proofs.Common.{◌≡◌, ℕ, List, [], refl, sym, ap, ap₂, ◌∙◌, subst, rules}
-use Rattle.mill_model.specs.declared.order.Order.{Order}
-use Rattle.mill_model.specs.Mill.{Mill, IsInLimits}
-use Rattle.slab_start.specs.Made.{made_mill}
+use Rattle.std.proofs.Common.{refl, ◌∙◌, rules}
 use Rattle.slab_start.proofs.MadeLimits.{made_in_limits}
 use Rattle.slab_start.proofs.made.make_mill.Goals as goal
 

@@ -1,5 +1,4 @@
-use Rattle.std.proofs.Common.{◌≡◌, ℕ, ◌≤◌, List, length, [], Some, sym, ap, ◌∙◌, arith}
-use Rattle.mill_model.specs.Starts.{IsStart}
+use Rattle.std.proofs.Common.{◌≡◌, ℕ, List, [], Some, sym, ap, ◌∙◌, arith}
 use Rattle.slab_start.specs.FirstFit.{by_weight, place_orders}
 use Rattle.slab_start.proofs.Started.{few_slabs, length-by_weight, first_fit_starts}
 use Rattle.slab_start.proofs.first_fit.FirstFitStarter.start.Goals as goal
