@@ -7,10 +7,11 @@ use crate::weights::orders_by_weight;
 use mill_model::{Mill, Plan, Starter};
 use std::alloc::{AllocError, Global};
 
-/// First fit: the orders by falling weight, ties by number. Each goes on the first slab opened so far that takes it, else on
-/// a new one, where fewer than the limit are open, else on the first free surplus slab that takes it. A slab takes an order
-/// where the load stays within its size (for a new slab the greatest listed size), its colours within the mill's limit, and
-/// the order isn't barred from it. At the end each new slab is of the least listed size that holds its load.
+/// First fit: the orders by falling weight, ties by number. Each goes on the first slab opened so far that takes it,
+/// else on a new one, where fewer than the limit are open, else on the first free surplus slab that takes it. A slab
+/// takes an order where the load stays within its size (for a new slab the greatest listed size), its colours within the
+/// mill's limit, and the order isn't barred from it. At the end each new slab is of the least listed size that holds its
+/// load.
 #[derive(Clone, Copy, Debug)]
 pub struct FirstFit;
 
