@@ -37,8 +37,8 @@ pub record IsOpenSlab (m : Mill) (c : Column) : Type 0 where
   pub bars : has_barred m c ≡ false
   pub rises : Rises 0 (length m.orders) c.orders
 
-pub put_on : (m : Mill) (o : ℕ) (c : Column) → IsOpenKind m c.kind → has_barred m c ≡ false → Rises 0 (length m.orders) c.orders → o < length m.orders → has c.orders o ≡ false → takes m o c ≡ true → IsOpenSlab m (with_order o c)
-put_on m o c kind bars rises h fresh t = record {
+pub open_with : (m : Mill) (o : ℕ) (c : Column) → IsOpenKind m c.kind → has_barred m c ≡ false → Rises 0 (length m.orders) c.orders → o < length m.orders → has c.orders o ≡ false → takes m o c ≡ true → IsOpenSlab m (with_order o c)
+open_with m o c kind bars rises h fresh t = record {
   kind = kind;
   some = omega (arith, length-insert c.orders (position_or_len (ltb o) c.orders) o (prefix_len-le-length (λ x. not (ltb o x)) c.orders));
   weight = leb-true (load m (with_order o c).orders) (size_of m c.kind) held.0;
@@ -87,7 +87,7 @@ module _ (m : Mill) (limit : Option ℤ) (o : ℕ) (left : List ℕ) (slabs : Li
       let old : IsOpenSlab m (get_or slabs k (empty (New 0))) = All-get_or (IsOpenSlab m) slabs k (empty (New 0)) at.0 f.each in
       let fresh : has (get_or slabs k (empty (New 0))).orders o ≡ false = none_passes (λ (s : Column). has s.orders o) slabs k (empty (New 0)) (on_none m limit o left slabs f) at.0 in
       record {
-        each = All-set (IsOpenSlab m) slabs k (with_order o c) (put_on m o c old.kind old.bars old.rises inside fresh at.1) f.each;
+        each = All-set (IsOpenSlab m) slabs k (with_order o c) (open_with m o c old.kind old.bars old.rises inside fresh at.1) f.each;
         once = λ s. omega (arith, sum_by-set (λ (x : Column). cond (is_old s x.kind) 1 0) slabs k (with_order o c) d at.0, f.once s);
         news = subst (λ n. AtMost (Some (pos n)) limit) (omega (arith, sum_by-set (λ (x : Column). cond (is_new x.kind) 1 0) slabs k (with_order o c) d at.0)) f.news;
         covered = λ z h. omega (arith, sum_by-set (λ (x : Column). cond (has x.orders z) 1 0) slabs k (with_order o c) d at.0, one_more o z c fresh, counted-cons (λ i. eqb i z) o left, f.covered z h);
@@ -141,7 +141,7 @@ module _ (m : Mill) (limit : Option ℤ) (o : ℕ) (left : List ℕ) (slabs : Li
 
   pub put_opened : (kind : Kind) → IsOpenable m limit slabs kind → takes m o (empty kind) ≡ true → AreFilled m limit left (slabs ++ with_order o (empty kind) ∷ [])
   put_opened kind open' t = record {
-    each = All-push (IsOpenSlab m) slabs (with_order o (empty kind)) f.each (put_on m o (empty kind) open'.stock refl tt (All-head (λ k. k < length m.orders) o left f.within) refl t);
+    each = All-push (IsOpenSlab m) slabs (with_order o (empty kind)) f.each (open_with m o (empty kind) open'.stock refl tt (All-head (λ k. k < length m.orders) o left f.within) refl t);
     once = λ s. elim (cases_Bool (is_old s kind)) [
       | inl e ↦ omega (arith, sum_by_push (λ (c : Column). cond (is_old s c.kind) 1 0) slabs (with_order o (empty kind)), one (is_old s kind) e, open'.once s e, counted_kinds (is_old s))
       | inr e ↦ omega (arith, sum_by_push (λ (c : Column). cond (is_old s c.kind) 1 0) slabs (with_order o (empty kind)), none (is_old s kind) e, f.once s)

@@ -132,8 +132,8 @@ module _ (orders seed : ℕ) where
         let more : (x : ℕ) → x < 44 → among x (2 * (orders / 2) + 1) ≡ among x (2 * (orders / 2)) =
         λ x h. omega (arith, sum_range_more (weighs x) (2 * (orders / 2)), ap {B = ℕ} (λ w. cond (eqb w x) 1 0) (last_weight (orders / 2) odd), none (eqb 44 x) (ne_eqb 44 x (λ e. omega arith))) in
         subst IsBalanced odd (record {
-          pairs = λ x low high. more x (omega arith) ∙ b.pairs x low high ∙ sym (more (44 - x) (omega arith));
-          even = (b.even.0, more 22 (omega arith) ∙ b.even.1);
+          pairs = λ x low high. omega (arith, more x (omega arith), b.pairs x low high, more (44 - x) (omega arith));
+          even = (b.even.0, omega (arith, more 22 (omega arith), b.even.1));
         })
   ]
 

@@ -24,7 +24,7 @@ use Rattle.mill_model.proofs.Slabs.{places_rise, has_places, once_same}
 use Rattle.mill_model.proofs.Rising.{same_members}
 use Rattle.slab_start.specs.Lists.{put_before}
 use Rattle.slab_start.specs.Slabs.{empty, with_order, takes, least_order, least_size, closed_kind, closed}
-use Rattle.slab_start.specs.FirstFit.{is_lighter, by_weight, can_start, kinds_of, places_of_orders, plan_of, closed_slabs, kinds_to_open, on_opened, place_order, place_orders}
+use Rattle.slab_start.specs.FirstFit.{is_lighter, by_weight, can_start, kinds_of, places_of_orders, plan_of, put_closed, closed_slabs, kinds_to_open, on_opened, place_order, place_orders}
 use Rattle.slab_start.proofs.PutBefore.{sum_by-put, All-put, sorted-put}
 use Rattle.slab_start.proofs.Ranges.{length-range, get_or-range}
 use Rattle.slab_start.proofs.Counts.{one, sum_by-map, first_within, first_is_only, count-range}
@@ -87,9 +87,6 @@ closed_legal m c limits open' =
     }
 
 -- ---- the closed slabs by their least orders
-
-abbrev put_closed : Mill → List Column → Column → List Column
-put_closed m others c = put_before (λ other. ltb (least_order c) (least_order other)) (closed m c) others
 
 pub sum_by-closed : (m : Mill) (f : Column → ℕ) (others slabs : List Column) → sum_by f (fold (put_closed m) others slabs) ≡ sum_by f others + sum_by (λ c. f (closed m c)) slabs
 sum_by-closed m f others [] = omega arith
