@@ -1,12 +1,13 @@
 -- Texts that are put one after another.
 use Rattle.std.proofs.Common.{◌≡◌, ℕ, ◌≤◌, Bool, true, false, Ok, Err, Result, List, [], ◌∷◌, ◌++◌, refl, sym, ap, ◌∙◌, subst, append_assoc, append-nil, arith}
 use Rattle.slab_counter.specs.Counter.{Rose}
+use Rattle.std.proofs.lemmas.Bool.{false≢true}
 use Rattle.slab_desk.specs.declared.desk.Failed.{Failed}
 use Rattle.slab_desk.specs.Causes.{is_stopped_after}
 use Rattle.slab_desk.specs.Desk.{Told, Steps, WithPrefix, Stays}
 use Rattle.slab_desk.proofs.Steps.{steps_join, steps_weaker, steps_start}
 use Rattle.line_out.specs.Seen.{Seen, IsSent}
-use Rattle.line_out.specs.Puts.{Waiting, IsUnderWay, IsBroken, HasPut, Puts}
+use Rattle.line_out.specs.Puts.{Waiting, IsUnderWay, IsBroken, HasPut, Puts, Ends}
 
 -- one text and then another
 pub puts_then : {sends : List ℕ → Told → Told → Type 0} (first second : List ℕ) (a b c : Waiting × Seen)
@@ -80,4 +81,77 @@ broke_off {sends} text waiting start now next error join u s = record {
   later = subst (λ (n : ℕ). n ≤ next.faults) u.faults s.cause.later;
   cause = subst (λ (n : ℕ). Rose n next.faults) u.faults s.cause.failed;
   stopped = s.stopped;
+}
+
+abbrev pub empty : Bool → Waiting
+empty failed = record { bytes = []; failed = failed }
+
+-- where the outside has failed, nothing more goes out
+pub stays_broken : {sends : List ℕ → Told → Told → Type 0} (buffer : Waiting) (now : Seen) → buffer.failed ≡ true → Puts sends [] (buffer, now) (empty true, now)
+stays_broken {sends} buffer now is = record {
+  after = λ before start h. record {
+    going = λ e. absurd (false≢true (sym e));
+    broken = λ e. broken_more before [] start now (h.broken is);
+  };
+}
+
+-- all that waited went out
+pub sends_all : {sends : List ℕ → Told → Told → Type 0} (buffer : Waiting) (now next : Seen) → Joins sends → buffer.failed ≡ false
+    → IsSent {E = Failed} sends buffer.bytes now next (Ok (tt {0})) → Puts sends [] (buffer, now) (empty false, next)
+sends_all {sends} buffer now next join is s = record {
+  after = λ before start h. record {
+    going = λ e. subst (λ (t : List ℕ). IsUnderWay sends t [] start next) (sym (append-nil before)) (went_out before buffer.bytes start now next join (h.going is) s);
+    broken = λ e. absurd (false≢true e);
+  };
+}
+
+-- a prefix of it went out
+pub sends_some : {sends : List ℕ → Told → Told → Type 0} (buffer : Waiting) (now next : Seen) (error : Failed) → Joins sends → buffer.failed ≡ false
+    → IsSent {T = Unit {0}} sends buffer.bytes now next (Err error) → Puts sends [] (buffer, now) (empty true, next)
+sends_some {sends} buffer now next error join is s = record {
+  after = λ before start h. record {
+    going = λ e. absurd (false≢true (sym e));
+    broken = λ e. broken_more before [] start next (broke_off before buffer.bytes start now next error join (h.going is) s);
+  };
+}
+
+-- a buffer that keeps nothing back: what was put is sent
+pub ends_well : {sends : List ℕ → Told → Told → Type 0} (buffer : Waiting) (old new : Seen)
+    → Puts sends [] (buffer, old) (empty false, new) → Ends {E = Failed} sends buffer old new (Ok (tt {0}))
+ends_well {sends} buffer old new p = record {
+  sent = λ text start h.
+      let u : IsUnderWay sends (text ++ []) [] start new = (p.after text start h).going refl in
+      let same : u.front ≡ text = sym (append-nil u.front) ∙ sym u.whole ∙ append-nil text in
+      record {
+        all = subst (λ (t : List ℕ). Steps start.told new.told (sends t)) same u.steps;
+        prefix = tt;
+        cause = record { later = omega (arith, u.faults); failed = tt; kept = u.faults };
+        stopped = u.stopped ∙ ap (λ (t : List ℕ). is_stopped_after {E = Failed} start.stopped t (Ok (tt {0}))) same;
+      };
+}
+
+pub ends_broken : {sends : List ℕ → Told → Told → Type 0} (buffer : Waiting) (old new : Seen) (error : Failed)
+    → Puts sends [] (buffer, old) (empty true, new) → Ends {T = Unit {0}} sends buffer old new (Err error)
+ends_broken {sends} buffer old new error p = record {
+  sent = λ text start h.
+      let b : IsBroken sends (text ++ []) start new = (p.after text start h).broken refl in
+      record {
+        all = tt;
+        prefix = subst (λ (t : List ℕ). Steps start.told new.told (WithPrefix sends t)) (append-nil text) b.prefix;
+        cause = record { later = b.later; failed = b.cause; kept = tt };
+        stopped = b.stopped;
+      };
+}
+
+-- a new buffer
+pub starts : {sends : List ℕ → Told → Told → Type 0} (now : Seen) → ((x : Told) → sends [] x x) → HasPut sends [] now (empty false) now
+starts {sends} now nothing = record {
+  going = λ e. record {
+    front = [];
+    whole = refl;
+    steps = steps_start (sends []) now.told nothing;
+    faults = refl;
+    stopped = refl;
+  };
+  broken = λ e. absurd (false≢true e);
 }

@@ -6,6 +6,7 @@
 
 mod end;
 mod line_out;
+mod numbers;
 
 pub use end::{End, Said, Written};
 pub use line_out::LineOut;

@@ -68,6 +68,21 @@ impl<E> LineOut<E> {
         self.used = end;
     }
 
+    // Sends what waits, unless the outside has failed before, and tells whether it has failed by now.
+    fn is_broken_after<D>(&self, desk: &mut D) -> bool
+    where
+        E: End<D>,
+        ensures { Puts E.sends [] (self.now, E.seen desk.old) (record { bytes = []; failed = result }, E.seen desk.new) }
+    {
+        if self.failed {
+            return true;
+        }
+        match E::send(desk, &self.bytes[..self.used]) {
+            Ok(()) => false,
+            Err(Failed) => true,
+        }
+    }
+
     // Sends what waits.
     fn send_waiting<D>(&mut self, desk: &mut D)
     where
@@ -75,19 +90,20 @@ impl<E> LineOut<E> {
         ensures empty { self.new.bytes ≡ [] }
         ensures nothing { Puts E.sends [] (self.old, E.seen desk.old) (self.new, E.seen desk.new) }
     {
-        if !self.failed && E::send(desk, &self.bytes[..self.used]).is_err() {
-            self.failed = true;
-        }
+        self.failed = self.is_broken_after(desk);
         self.used = 0;
     }
 
     /// Sends what waits still. It is `Failed` where the outside has failed since the buffer was new.
-    pub fn finish<D>(mut self, desk: &mut D) -> Result<(), Failed>
+    pub fn finish<D>(self, desk: &mut D) -> Result<(), Failed>
     where
         E: End<D>,
         ensures { Ends E.sends self (E.seen desk.old) (E.seen desk.new) result }
     {
-        self.send_waiting(desk);
-        if self.failed { Err(Failed) } else { Ok(()) }
+        if self.is_broken_after(desk) {
+            Err(Failed)
+        } else {
+            Ok(())
+        }
     }
 }
