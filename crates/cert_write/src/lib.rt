@@ -9,8 +9,6 @@ mod points;
 mod questions;
 mod slabs;
 mod stored;
-#[cfg(test)]
-mod tests;
 mod trees;
 mod write;
 

@@ -3,7 +3,7 @@ ghost use Rattle.std.specs.Prelude.{◌≡◌, ◌∷◌, [], OnOk, OnErr};
 ghost use Rattle.std.specs.Result.{is_err};
 ghost use Rattle.slab_desk.specs.Causes.{HasCause};
 ghost use Rattle.slab_desk.specs.Desk.{Steps, AppendsAll, WithPrefix};
-ghost use Rattle.cert_text.specs.Certificates.Ending as Ending;
+ghost use Rattle.cert_text.specs.Certificates.Ending.{Whole as WholeEnding, Cut as CutEnding};
 ghost use Rattle.cert_text.specs.Lines.{header_line, ending_lines};
 ghost use Rattle.cert_text.specs.Texts.{certificate_text, lines_text};
 ghost use Rattle.line_out.specs.Puts.{Puts};
@@ -81,7 +81,7 @@ fn put_header<D, E: End<D>>(out: &mut LineOut<E>, desk: &mut D, version: Version
 
 // The end of a whole certificate.
 fn put_last<D, E: End<D>>(out: &mut LineOut<E>, desk: &mut D, version: Version, last: &Steps)
-    ensures { Puts E.sends (lines_text (ending_lines version (Ending.Whole last.now))) (out.old, E.seen desk.old) (out.new, E.seen desk.new) }
+    ensures { Puts E.sends (lines_text (ending_lines version (WholeEnding last.now))) (out.old, E.seen desk.old) (out.new, E.seen desk.new) }
 {
     out.put(desk, b"done\n");
     put_tree(out, desk, version, last);
@@ -89,7 +89,7 @@ fn put_last<D, E: End<D>>(out: &mut LineOut<E>, desk: &mut D, version: Version, 
 
 // The end of one that was cut off.
 fn put_cut<D, E: End<D>>(out: &mut LineOut<E>, desk: &mut D, open_tree: &OpenTree)
-    ensures { Puts E.sends (lines_text (ending_lines Version.Two (Ending.Cut open_tree.now))) (out.old, E.seen desk.old) (out.new, E.seen desk.new) }
+    ensures { Puts E.sends (lines_text (ending_lines Version.Two (CutEnding open_tree.now))) (out.old, E.seen desk.old) (out.new, E.seen desk.new) }
 {
     out.put(desk, b"cut\n");
     put_outline(out, desk, open_tree.list());
