@@ -1,4 +1,4 @@
 pub mod Lines
 pub mod Places
-pub mod Trees
+pub mod OnTheWay
 pub mod Whole

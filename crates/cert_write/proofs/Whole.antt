@@ -1,5 +1,6 @@
 -- A whole certificate in three parts.
 use Rattle.std.proofs.Common.{◌≡◌, ℕ, Bool, Result, List, [], ◌∷◌, ◌++◌, refl, sym, ap, ◌∙◌, append_assoc, append-nil}
+use Rattle.std.specs.Prelude.{codes}
 use Rattle.std.specs.List.{flat_map}
 use Rattle.std.specs.Result.{is_err}
 use Rattle.slab_desk.specs.Causes.{is_stopped_after}
@@ -35,8 +36,11 @@ pub no_point_parts : (version : Version) (ending : Ending)
     → header_text version ++ ending_text version ending ≡ certificate_text (record { version = version; points = []; ending = ending })
 no_point_parts version ending = ap (λ (t : List ℕ). t ++ ending_text version ending) (sym (append-nil (header_text version))) ∙ certificate_parts version [] ending
 
+stopped_after_lines : {T E : Type 0} (before : Bool) (version : Version) (more : List ℕ) (result : Result T E)
+    → is_stopped_after before ((line_text (header_line version) ++ (10 ∷ [])) ++ more) result ≡ is_err result
+stopped_after_lines before One more result = stopped_after_some before 115 (codes "labfront 1\n" ++ more) result
+stopped_after_lines before Two more result = stopped_after_some before 115 (codes "labfront 2\n" ++ more) result
+
 -- a certificate has some bytes, so that a call was made
-pub stopped_after_certificate : {T E : Type 0} (before : Bool) (c : Certificate) (version : Version) → c.version ≡ version → (result : Result T E)
-    → is_stopped_after before (certificate_text c) result ≡ is_err result
-stopped_after_certificate before c One is result = ap (λ (v : Version). is_stopped_after before (certificate_text (record c { version = v })) result) is ∙ stopped_after_some before _ _ result
-stopped_after_certificate before c Two is result = ap (λ (v : Version). is_stopped_after before (certificate_text (record c { version = v })) result) is ∙ stopped_after_some before _ _ result
+pub stopped_after_certificate : {T E : Type 0} (before : Bool) (c : Certificate) (result : Result T E) → is_stopped_after before (certificate_text c) result ≡ is_err result
+stopped_after_certificate before c result = stopped_after_lines before c.version (lines_text (flat_map (point_lines c.version) c.points ++ ending_lines c.version c.ending)) result

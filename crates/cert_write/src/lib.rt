@@ -1,8 +1,9 @@
 //! Writes certificates, and the lines of a point that a report has too.
 //!
-//! Read `stored` first, then `write`, `points`, `slabs`, `trees`, `marks` and `questions`, with `specs/Parts` beside them.
+//! Read `stored` first, then `write`, `certificate`, `points`, `slabs`, `trees`, `marks` and `questions`, with `specs/Parts` beside them.
 #![tactic(auto)]
 
+mod certificate;
 mod marks;
 mod numbers;
 mod points;

@@ -1,20 +1,15 @@
 // A certificate goes out.
-ghost use Rattle.std.specs.Prelude.{◌≡◌, ◌∷◌, [], OnOk, OnErr};
+ghost use Rattle.std.specs.Prelude.{◌≡◌, OnOk, OnErr};
 ghost use Rattle.std.specs.Result.{is_err};
 ghost use Rattle.slab_desk.specs.Causes.{HasCause};
 ghost use Rattle.slab_desk.specs.Desk.{Steps, AppendsAll, WithPrefix};
-ghost use Rattle.cert_text.specs.Certificates.Ending.{Whole as WholeEnding, Cut as CutEnding};
-ghost use Rattle.cert_text.specs.Lines.{header_line, ending_lines};
-ghost use Rattle.cert_text.specs.Texts.{certificate_text, lines_text};
-ghost use Rattle.line_out.specs.Puts.{Puts};
+ghost use Rattle.cert_text.specs.Texts.{certificate_text};
 ghost use Rattle.cert_write.specs.Parts.{certificate_of, HasMarksOfItsVersion};
 
 use crate::Stored;
-use crate::points::put_points;
-use crate::questions::put_outline;
-use crate::trees::put_tree;
-use line_out::{End, LineOut, Written};
-use mill_model::{Mill, OpenTree, Steps, Version};
+use crate::certificate::put_certificate;
+use line_out::{LineOut, Written};
+use mill_model::{Mill, Version};
 use slab_desk::{Desk, Failed};
 
 /// Appends the text of version 2 of this certificate to the target file, or a prefix of it where the outside fails. It takes
@@ -36,7 +31,7 @@ pub fn write_version<D: Desk>(
     what: Stored<'_>,
     desk: &mut D,
 ) -> Result<(), Failed>
-    requires { HasMarksOfItsVersion (certificate_of version what.entry) }
+    requires { HasMarksOfItsVersion (certificate_of version what) }
     ensures all { OnOk result (Steps (D.told desk.old) (D.told desk.new) (AppendsAll (certificate_text (certificate_of version what.entry)))) }
     ensures prefix { OnErr result (Steps (D.told desk.old) (D.told desk.new) (WithPrefix AppendsAll (certificate_text (certificate_of version what.entry)))) }
     ensures cause { HasCause (D.faults desk.old) (D.faults desk.new) result }
@@ -45,52 +40,4 @@ pub fn write_version<D: Desk>(
     let mut out = LineOut::<Written>::new();
     put_certificate(&mut out, desk, version, what);
     out.finish(desk)
-}
-
-// The lines of a certificate.
-fn put_certificate<D, E: End<D>>(
-    out: &mut LineOut<E>,
-    desk: &mut D,
-    version: Version,
-    what: Stored<'_>,
-)
-    ensures { Puts E.sends (certificate_text (certificate_of version what.entry)) (out.old, E.seen desk.old) (out.new, E.seen desk.new) }
-{
-    put_header(out, desk, version);
-    match what {
-        Stored::Whole(front) => {
-            put_points(out, desk, version, front.head().points());
-            put_last(out, desk, version, front.last());
-        }
-        Stored::NoPlan(last) => put_last(out, desk, version, last),
-        Stored::Cut(head, open_tree) => {
-            put_points(out, desk, version, head.points());
-            put_cut(out, desk, open_tree);
-        }
-    }
-}
-
-fn put_header<D, E: End<D>>(out: &mut LineOut<E>, desk: &mut D, version: Version)
-    ensures { Puts E.sends (lines_text (header_line version ∷ [])) (out.old, E.seen desk.old) (out.new, E.seen desk.new) }
-{
-    match version {
-        Version::One => out.put(desk, b"slabfront 1\n"),
-        Version::Two => out.put(desk, b"slabfront 2\n"),
-    }
-}
-
-// The end of a whole certificate.
-fn put_last<D, E: End<D>>(out: &mut LineOut<E>, desk: &mut D, version: Version, last: &Steps)
-    ensures { Puts E.sends (lines_text (ending_lines version (WholeEnding last.now))) (out.old, E.seen desk.old) (out.new, E.seen desk.new) }
-{
-    out.put(desk, b"done\n");
-    put_tree(out, desk, version, last);
-}
-
-// The end of one that was cut off.
-fn put_cut<D, E: End<D>>(out: &mut LineOut<E>, desk: &mut D, open_tree: &OpenTree)
-    ensures { Puts E.sends (lines_text (ending_lines Version.Two (CutEnding open_tree.now))) (out.old, E.seen desk.old) (out.new, E.seen desk.new) }
-{
-    out.put(desk, b"cut\n");
-    put_outline(out, desk, open_tree.list());
 }

@@ -12,6 +12,12 @@ use Rattle.line_out.proofs.Putting.{empty, puts_then, starts}
 pub puts_same : {sends : List ℕ → Told → Told → Type 0} (text other : List ℕ) (a b : Waiting × Seen) → text ≡ other → Puts sends text a b → Puts sends other a b
 puts_same {sends} text other a b e p = subst (λ (t : List ℕ). Puts sends t a b) e p
 
+-- after the same call in other words
+pub puts_moved : {sends : List ℕ → Told → Told → Type 0} {D : Type 0} (seen : D → Seen) (text : List ℕ) (a : Waiting × Seen) (buffer other : Waiting) (desk next : D)
+    → other ≡ buffer → next ≡ desk → Puts sends text a (buffer, seen desk) → Puts sends text a (other, seen next)
+puts_moved {sends} seen text a buffer other desk next e f p =
+    subst (λ d. Puts sends text a (other, seen d)) (sym f) (subst (λ (b : Waiting). Puts sends text a (b, seen desk)) (sym e) p)
+
 -- the text of a list is that of its parts
 abbrev pub IsByElement : {A : Type 0} → (List A → List ℕ) → Type 0
 IsByElement {A} text = (xs ys : List A) → text (xs ++ ys) ≡ text xs ++ text ys

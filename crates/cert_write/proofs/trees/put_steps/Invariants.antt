@@ -1,5 +1,5 @@
 use Rattle.std.proofs.Common.{drop}
-use Rattle.cert_write.proofs.Trees.{IsOnTheWay, rest_text}
+use Rattle.cert_write.proofs.OnTheWay.{IsOnTheWay, rest_text}
 use Rattle.cert_write.proofs.trees.put_steps.Given as goal
 
 abbrev pub invariant-loop-step : goal.invariant-loop-step
