@@ -1,6 +1,6 @@
 -- The texts of lists of lines and numbers are those of their parts.
 use Rattle.std.proofs.Common.{◌≡◌, ℕ, List, [], ◌∷◌, ◌++◌, map, refl, sym, ap, ◌∙◌, append_assoc, append-nil}
-use Rattle.std.specs.Prelude.{ℤ, codes}
+use Rattle.std.specs.Prelude.{ℤ, pos, codes}
 use Rattle.std.specs.List.{flat_map}
 use Rattle.std.specs.Fmt.{signed_decimal}
 use Rattle.std.proofs.lemmas.List.{map-append}
@@ -41,8 +41,8 @@ grouped a b n = simp (append_assoc, append-nil)
 
 -- the line of a share: how it begins, and the orders on it
 pub share_line_begins : (times : ℤ) (kind : Kind) (orders : List ℕ) → line_text (share_line_on times kind []) ++ numbers_text (map number orders) ≡ line_text (share_line_on times kind orders)
-share_line_begins times (New size) orders = grouped (codes "cnew " ++ signed_decimal times) _ (numbers_text (map number orders))
-share_line_begins times (Old s) orders = grouped (codes "cold " ++ signed_decimal times) _ (numbers_text (map number orders))
+share_line_begins times (New size) orders = grouped (codes "cnew " ++ signed_decimal times) (32 ∷ signed_decimal (pos size)) (numbers_text (map number orders))
+share_line_begins times (Old s) orders = grouped (codes "cold " ++ signed_decimal times) (32 ∷ signed_decimal (number s)) (numbers_text (map number orders))
 
 pub share_text : (share : Share) (times : ℤ) (kind : Kind) (orders : List ℕ) → times ≡ share.times → kind ≡ share.kind → orders ≡ share.orders
     → (line_text (share_line_on times kind []) ++ numbers_text (map number orders)) ++ (10 ∷ []) ≡ lines_text (share_line share ∷ [])
