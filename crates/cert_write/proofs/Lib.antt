@@ -1,6 +1,5 @@
 pub mod Lines
 pub mod Places
-pub mod Prices
 pub mod OnTheWay
 pub mod Whole
 pub mod Versions

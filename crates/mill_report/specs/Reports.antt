@@ -31,9 +31,13 @@ abbrev pub report_text : List Point → ℕ → ℕ → Word → List ℕ
 report_text points opened bare word =
     front_text (length points) ++ flat_map point_text points ++ nodes_text opened bare ++ word_text word
 
--- how many orders a mill has, and what they weigh together
+-- what the orders weigh together
+abbrev pub weight_of : Mill → ℕ
+weight_of m = sum_by (λ order. order.weight) m.orders
+
+-- how many orders a mill has, and their weight
 abbrev pub made_text : Mill → List ℕ
-made_text m = codes "made " ++ decimal (length m.orders) ++ codes " " ++ decimal (sum_by (λ order. order.weight) m.orders) ++ codes "\n"
+made_text m = codes "made " ++ decimal (length m.orders) ++ codes " " ++ decimal (weight_of m) ++ codes "\n"
 
 -- a point's sums alone
 abbrev pub sums_text : Point → List ℕ
