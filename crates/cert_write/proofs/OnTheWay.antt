@@ -1,6 +1,5 @@
 -- A tree goes out step by step.
 use Rattle.std.proofs.Common.{◌≡◌, ℕ, suc, ◌+◌, ◌<◌, List, [], ◌∷◌, ◌++◌, length, drop, get_or, refl, sym, ap, ◌∙◌, append_assoc, append-nil, add-one, subst}
-use Rattle.std.proofs.lemmas.List.{drop_all}
 use Rattle.std.proofs.Math.Seq.{drop-cons}
 use Rattle.mill_model.specs.declared.mark.Mark.{Mark}
 use Rattle.mill_model.specs.declared.steps.Step.{Step}

@@ -1,5 +1,5 @@
 -- The orders on a slab, found place by place.
-use Rattle.std.proofs.Common.{◌≡◌, ℕ, suc, ◌+◌, ◌<◌, cond, eqb, true, false, List, [], ◌∷◌, ◌++◌, length, take, get_or, map, sym, ap, ◌∙◌, append-nil, arith}
+use Rattle.std.proofs.Common.{◌≡◌, ℕ, ◌+◌, ◌<◌, cond, eqb, true, false, List, [], ◌∷◌, ◌++◌, length, take, get_or, map, ap, ◌∙◌, append-nil, arith}
 use Rattle.std.proofs.lemmas.List.{take_more, length-take}
 use Rattle.mill_model.specs.Plans.{places_of}
 use Rattle.mill_model.proofs.Judging.{places_of-push}

@@ -1,4 +1,4 @@
-use Rattle.std.proofs.Common.{ℕ, List, [], ◌∷◌, sym, ap}
+use Rattle.std.proofs.Common.{[], ◌∷◌, sym, ap}
 use Rattle.mill_model.specs.declared.version.Version.{Version}
 use Rattle.cert_text.specs.Lines.{header_line}
 use Rattle.cert_text.specs.Texts.{lines_text}

@@ -1,4 +1,4 @@
-use Rattle.std.proofs.Common.{◌∷◌, ◌+◌, ℕ, List, refl, sym, ap, ◌∙◌, append-nil, eq-eqb, add-one}
+use Rattle.std.proofs.Common.{◌∷◌, ℕ, List, sym, ap, ◌∙◌, append-nil, eq-eqb, add-one}
 use Rattle.std.specs.Fmt.{decimal}
 use Rattle.std.proofs.lemmas.Bool.{ne_eqb}
 use Rattle.line_out.proofs.Putting.{puts_then}

@@ -1,4 +1,4 @@
-use Rattle.std.proofs.Common.{ℕ, false, List, ◌∙◌, subst}
+use Rattle.std.proofs.Common.{false, ◌∙◌, subst}
 use Rattle.slab_desk.specs.Desk.{AppendsAll}
 use Rattle.cert_text.specs.Certificates.{Certificate}
 use Rattle.cert_text.specs.Texts.{certificate_text}
