@@ -39,9 +39,9 @@ pub step_more : {sends : List ℕ → Told → Told → Type 0} (version : Versi
 step_more version whole steps i d step left a b c h is so_far next =
     let split : drop i steps ≡ step ∷ drop (i + 1) steps = drop-cons steps i d h ∙ ap (λ (s : Step). s ∷ drop (suc i) steps) is ∙ ap (λ (n : ℕ). step ∷ drop n steps) (sym (add-one i)) in
     let text : rest_text version (drop i steps) left ≡ rest_text version (step ∷ []) left ++ rest_text version (drop (i + 1) steps) (left_after step left) =
-      ap (λ (s : List Step). rest_text version s left) split
-      ∙ ap lines_text (steps_lines-cons version step (drop (i + 1) steps) left)
-      ∙ lines_by_element (steps_lines version (step ∷ []) left) (steps_lines version (drop (i + 1) steps) (left_after step left)) in
+    ap (λ (s : List Step). rest_text version s left) split
+    ∙ ap lines_text (steps_lines-cons version step (drop (i + 1) steps) left)
+    ∙ lines_by_element (steps_lines version (step ∷ []) left) (steps_lines version (drop (i + 1) steps) (left_after step left)) in
     record {
       front = so_far.front ++ rest_text version (step ∷ []) left;
       parts = append_assoc so_far.front (rest_text version (step ∷ []) left) (rest_text version (drop (i + 1) steps) (left_after step left)) ∙ ap (λ (t : List ℕ). so_far.front ++ t) (sym text) ∙ so_far.parts;

@@ -10,6 +10,8 @@ mod points;
 mod questions;
 mod slabs;
 mod stored;
+#[cfg(test)]
+mod tests;
 mod trees;
 mod write;
 

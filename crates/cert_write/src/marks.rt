@@ -11,7 +11,12 @@ use line_out::{End, LineOut};
 use mill_model::{Kind, Mark, Share, Shown, Version};
 
 // The lines of the first mark that is left.
-pub fn put_first_mark<D, E: End<D>>(out: &mut LineOut<E>, desk: &mut D, version: Version, left: &[Mark])
+pub fn put_first_mark<D, E: End<D>>(
+    out: &mut LineOut<E>,
+    desk: &mut D,
+    version: Version,
+    left: &[Mark],
+)
     ensures { Puts E.sends (lines_text (first_mark_lines version left.now)) (out.old, E.seen desk.old) (out.new, E.seen desk.new) }
 {
     if let [mark, ..] = left {

@@ -10,7 +10,12 @@ use line_out::{End, LineOut};
 use mill_model::{Proved, Version};
 
 // The lines of these points.
-pub fn put_points<D, E: End<D>>(out: &mut LineOut<E>, desk: &mut D, version: Version, points: &[Proved])
+pub fn put_points<D, E: End<D>>(
+    out: &mut LineOut<E>,
+    desk: &mut D,
+    version: Version,
+    points: &[Proved],
+)
     ensures { Puts E.sends (lines_text (flat_map (point_lines version) points.now)) (out.old, E.seen desk.old) (out.new, E.seen desk.new) }
 {
     for point in points {

@@ -1,8 +1,9 @@
 -- What is said of the points of a front. Each text is lines, each ended by a line feed.
 use Rattle.std.specs.Prelude.{ℕ, List, [], ◌∷◌, ◌++◌, length, map, codes}
-use Rattle.std.specs.List.{flat_map, sum_by}
+use Rattle.std.specs.List.{flat_map}
 use Rattle.std.specs.Fmt.{decimal}
 use Rattle.mill_model.specs.Mill.{Mill}
+use Rattle.mill_model.specs.Plain.{total_weight}
 use Rattle.mill_model.specs.Fronts.{Point}
 use Rattle.cert_text.specs.Lines.{sums_line, slab_line, columns_of}
 use Rattle.cert_text.specs.Texts.{lines_text}
@@ -31,13 +32,9 @@ abbrev pub report_text : List Point → ℕ → ℕ → Word → List ℕ
 report_text points opened bare word =
     front_text (length points) ++ flat_map point_text points ++ nodes_text opened bare ++ word_text word
 
--- what the orders weigh together
-abbrev pub weight_of : Mill → ℕ
-weight_of m = sum_by (λ order. order.weight) m.orders
-
--- how many orders a mill has, and their weight
+-- how many orders a mill has, and what they weigh together
 abbrev pub made_text : Mill → List ℕ
-made_text m = codes "made " ++ decimal (length m.orders) ++ codes " " ++ decimal (weight_of m) ++ codes "\n"
+made_text m = codes "made " ++ decimal (length m.orders) ++ codes " " ++ decimal (total_weight m) ++ codes "\n"
 
 -- a point's sums alone
 abbrev pub sums_text : Point → List ℕ

@@ -4,14 +4,15 @@ ghost use Rattle.std.specs.List.{flat_map};
 ghost use Rattle.std.specs.Result.{is_err};
 ghost use Rattle.slab_desk.specs.Causes.{HasCause};
 ghost use Rattle.slab_desk.specs.Desk.{Steps, Says, WithPrefix};
+ghost use Rattle.mill_model.specs.Plain.{total_weight};
 ghost use Rattle.line_out.specs.Puts.{Puts};
-ghost use Rattle.mill_report.specs.Reports.{made_text, sums_text, summary_text, weight_of};
+ghost use Rattle.mill_report.specs.Reports.{made_text, sums_text, summary_text};
 
 use crate::Word;
 use crate::ending::{put_nodes, put_word};
 use cert_write::put_sums;
 use line_out::{End, LineOut, Said};
-use mill_model::{Head, Mill, Proved};
+use mill_model::{Head, MOST_ORDERS, Mill, Proved};
 use slab_desk::{Desk, Failed};
 
 /// Says the summary of a mill that was made, and of these points: the mill's number of orders and their weight, the sums of
@@ -64,10 +65,12 @@ fn put_made<D, E: End<D>>(out: &mut LineOut<E>, desk: &mut D, mill: &Mill)
 
 // What the orders weigh together.
 fn weight(mill: &Mill) -> u64
-    ensures { result ≡ weight_of mill.now }
+    ensures { result ≡ total_weight mill.now }
 {
+    let orders = mill.orders();
+    prove!(orders.len() <= MOST_ORDERS as usize);
     let mut sum = 0u64;
-    for order in mill.orders() {
+    for order in orders {
         sum += u64::from(order.weight);
     }
     sum

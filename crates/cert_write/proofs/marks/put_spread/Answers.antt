@@ -12,4 +12,4 @@ returns g c =
     let fits : FitsSigned w64 c.d.result = record { sfits = c.d.type_inv } in
     let d_is : to_z w64 (of_z w64 c.d.result) ≡ shown.d = to_z-of_z w64 c.d.result fits ∙ c.d.ensures in
     puts_same _ _ _ _ (spread_text shown (to_z w64 (of_z w64 c.d.result)) c.shares.result.now d_is c.shares.ensures)
-      (puts_then _ _ _ _ _ (puts_then _ _ _ _ _ (puts_then _ _ _ _ _ c.put.ensures c.signed_number.ensures) c.end_line.ensures) c.put_shares.ensures)
+    (puts_then _ _ _ _ _ (puts_then _ _ _ _ _ (puts_then _ _ _ _ _ c.put.ensures c.signed_number.ensures) c.end_line.ensures) c.put_shares.ensures)

@@ -13,4 +13,4 @@ loop-number-preserved g c =
     let fits : FitsSigned w64 (get_or c.args.numbers.now c.loop-number.number-index (pos 0)) = search rules in
     let same : to_z w64 (of_z w64 number) ≡ number = to_z-of_z w64 number fits in
     puts_next numbers_text numbers_by_element c.args.numbers.now c.loop-number.number-index (pos 0) _ c.loop-number-test.true refl _ _ _ c.loop-number.invariant
-      (puts_same _ _ _ _ (ap (λ (n : ℤ). 32 ∷ signed_decimal n) same ∙ ap (λ (t : List ℕ). 32 ∷ t) (sym (append-nil (signed_decimal number)))) c.signed_number.ensures)
+    (puts_same _ _ _ _ (ap (λ (n : ℤ). 32 ∷ signed_decimal n) same ∙ ap (λ (t : List ℕ). 32 ∷ t) (sym (append-nil (signed_decimal number)))) c.signed_number.ensures)

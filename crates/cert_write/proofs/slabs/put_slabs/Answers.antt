@@ -15,6 +15,6 @@ loop-k-preserved g c =
     let plan = c.args.plan.now in
     let k = c.loop-k.k in
     puts_same _ _ _ _
-      (sym (ap (λ (cs : List Column). lines_text (map slab_line cs)) (map-range_with_len_more (slab plan) 0 k k (zero-add k))
-        ∙ mapped_by_element slab_line (map (slab plan) (range_with_len 0 k)) (slab plan k ∷ [])))
-      (puts_then _ _ _ _ _ c.loop-k.invariant c.put_slab.ensures)
+    (sym (ap (λ (cs : List Column). lines_text (map slab_line cs)) (map-range_with_len_more (slab plan) 0 k k (zero-add k))
+    ∙ mapped_by_element slab_line (map (slab plan) (range_with_len 0 k)) (slab plan k ∷ [])))
+    (puts_then _ _ _ _ _ c.loop-k.invariant c.put_slab.ensures)

@@ -14,4 +14,4 @@ returns g c =
     let lambda_is : to_z w64 (of_z w64 c.lambda.result) ≡ p.lambda = to_z-of_z w64 c.lambda.result lambda_fits ∙ c.lambda.ensures.value in
     let mu_is : to_z w64 (of_z w64 c.mu.result) ≡ p.mu = to_z-of_z w64 c.mu.result mu_fits ∙ c.mu.ensures.value in
     puts_same _ _ _ _ (leaf_text p (to_z w64 (of_z w64 c.lambda.result)) (to_z w64 (of_z w64 c.mu.result)) c.pi.result.now c.sigma.result.now lambda_is mu_is c.pi.ensures.value c.sigma.ensures.value)
-      (puts_then _ _ _ _ _ (puts_then _ _ _ _ _ (puts_then _ _ _ _ _ (puts_then _ _ _ _ _ (puts_then _ _ _ _ _ c.put.ensures c.signed_number.ensures) c.signed_number-2.ensures) c.put_numbers.ensures) c.put_numbers-2.ensures) c.end_line.ensures)
+    (puts_then _ _ _ _ _ (puts_then _ _ _ _ _ (puts_then _ _ _ _ _ (puts_then _ _ _ _ _ (puts_then _ _ _ _ _ c.put.ensures c.signed_number.ensures) c.signed_number-2.ensures) c.put_numbers.ensures) c.put_numbers-2.ensures) c.end_line.ensures)

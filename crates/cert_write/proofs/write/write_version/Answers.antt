@@ -19,9 +19,9 @@ returns g c =
     let second = seen c.put_certificate.new.desk in
     let last = seen c.finish.new.desk in
     let puts : Puts AppendsAll (certificate_text certificate) (empty false, first) (c.put_certificate.new.out, second) =
-      subst (λ (buffer : Waiting). Puts AppendsAll (certificate_text certificate) (buffer, first) (c.put_certificate.new.out, second)) c.new-out.ensures c.put_certificate.ensures in
+    subst (λ (buffer : Waiting). Puts AppendsAll (certificate_text certificate) (buffer, first) (c.put_certificate.new.out, second)) c.new-out.ensures c.put_certificate.ensures in
     let sent : IsSent AppendsAll (certificate_text certificate) first last c.finish.result =
-      whole_is_sent (certificate_text certificate) c.put_certificate.new.out first second last c.finish.result appends_nothing puts c.finish.ensures in
+    whole_is_sent (certificate_text certificate) c.put_certificate.new.out first second last c.finish.result appends_nothing puts c.finish.ensures in
     record {
       all = sent.all;
       prefix = sent.prefix;
