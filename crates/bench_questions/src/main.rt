@@ -2,6 +2,8 @@
 //! no time of its own.
 #![tactic(auto)]
 
+ghost use Rattle.std.specs.Prelude.{◌≤◌, IfSome};
+
 use mill_model::{Head, Mill, Plan, Proved, Starter};
 use mill_read::{read_orders, read_yard};
 use slab_node::Tally;
@@ -62,7 +64,9 @@ fn run<R: Env + Files + AllocGlobal + Print>(rt: &R) -> io::Result<bool> {
 }
 
 // A number above 0.
-fn number(word: &str) -> Option<u64> {
+fn number(word: &str) -> Option<u64>
+    ensures { IfSome result (λ number. 1 ≤ number) }
+{
     match word.parse::<u64>() {
         Ok(0) => None,
         Ok(number) => Some(number),
@@ -91,15 +95,18 @@ fn read_mill<R: Files + AllocGlobal>(
 }
 
 // Sweeps a mill, and prints what came of it.
-fn sweep_mill<R: AllocGlobal + Print>(rt: &R, mill: &Mill, limit: u64) -> io::Result<()> {
+fn sweep_mill<R: AllocGlobal + Print>(rt: &R, mill: &Mill, limit: u64) -> io::Result<()>
+    requires { 1 ≤ limit }
+{
     let alloc = rt.alloc();
     let mut nodes = Nodes::new(limit);
     let mut tally = Tally::new();
     let head = Head::new(Vec::new(alloc));
-    match sweep(alloc, mill, &mut Idle, head, &mut nodes, &mut tally)? {
+    let mut idle = Idle;
+    match sweep(alloc, mill, &mut idle, head, &mut nodes, &mut tally)? {
         Swept::Complete(front) => print_points(rt, "complete", front.head().points())?,
-        Swept::NoPlan(_) => println!(rt; "no plan")?,
-        Swept::Budget(head, _) => print_points(rt, "budget", head.points())?,
+        Swept::NoPlan(_steps) => println!(rt; "no plan")?,
+        Swept::Budget(head, _tree) => print_points(rt, "budget", head.points())?,
     }
     println!(rt;
         "nodes {} bare {} wides {} stalls {} pivots {} fulls {}",
