@@ -1,4 +1,5 @@
-pub mod Reports
 pub mod Telling
 pub mod Owing
 pub mod Ends
+pub mod Searching
+

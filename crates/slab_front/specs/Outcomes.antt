@@ -13,6 +13,10 @@ pub record Outcome : Type 0 where
 abbrev pub saying : List ℕ → Outcome
 saying text = record { said = text; stored = None }
 
+-- only a file is created
+abbrev pub storing : List ℕ → List ℕ → Outcome
+storing name bytes = record { said = []; stored = Some (name, bytes) }
+
 -- which status is owed with which outcome
 abbrev pub Owing : Type 1
 Owing = ℕ → Outcome → Type 0
@@ -31,24 +35,24 @@ abbrev pub SaysOnly : List ℕ → Told → Told → Type 0
 SaysOnly text = Gives (saying text)
 
 -- the file was created with a prefix of its bytes
-abbrev pub StoresFront : Option (List ℕ × List ℕ) → Told → Told → Type 0
-StoresFront None old new = ⊥
-StoresFront (Some (name, bytes)) old new = WithPrefix (λ front. Gives (record { said = []; stored = Some (name, front) })) bytes old new
+abbrev pub BeginsToStore : Option (List ℕ × List ℕ) → Told → Told → Type 0
+BeginsToStore None old new = ⊥
+BeginsToStore (Some (name, bytes)) old new = WithPrefix (λ begun. Gives (storing name begun)) bytes old new
 
 -- the file is as it is to be, and a prefix of the text was said
-abbrev pub SaysFront : Outcome → Told → Told → Type 0
-SaysFront outcome old new = WithPrefix (λ front. Gives (record outcome { said = front })) outcome.said old new
+abbrev pub BeginsToSay : Outcome → Told → Told → Type 0
+BeginsToSay outcome old new = WithPrefix (λ begun. Gives (record outcome { said = begun })) outcome.said old new
 
 -- the outcome was begun
 abbrev pub Begins : Outcome → Told → Told → Type 0
-Begins outcome old new = StoresFront outcome.stored old new ⊎ SaysFront outcome old new
+Begins outcome old new = BeginsToStore outcome.stored old new ⊎ BeginsToSay outcome old new
 
 -- nothing happened; or an outcome was begun that is owed, or the text for want of memory
 abbrev pub StopsShort : (Files → Owing) → Told → Told → Type 0
 StopsShort owes old new =
     SaysOnly [] old new
     ⊎ (((status : ℕ) × (outcome : Outcome) × owes old.files status outcome × Begins outcome old new)
-    ⊎ SaysFront (saying memory_text) old new)
+    ⊎ BeginsToSay (saying memory_text) old new)
 
 -- the outcome that is owed with this status was given
 abbrev pub GivesOwed : (Files → Owing) → ℕ → Told → Told → Type 0

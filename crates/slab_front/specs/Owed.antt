@@ -105,12 +105,15 @@ Owes words = OwesOfWords (job_of words)
 
 -- ---- whatever the desk tells
 
+abbrev pub IsSearchStatus : ℕ → Type 0
+IsSearchStatus status = (status ≡ 0) ⊎ ((status ≡ 3) ⊎ (status ≡ 4))
+
 -- the statuses that these words may end with, beside those of a fault and of want of memory
 abbrev pub MayEnd : Parsed Command → ℕ → Type 0
 MayEnd (Err number) status = status ≡ 1
-MayEnd (Ok (Solves words cert limit)) status = (status ≡ 0) ⊎ ((status ≡ 2) ⊎ ((status ≡ 3) ⊎ (status ≡ 4)))
+MayEnd (Ok (Solves words cert limit)) status = (status ≡ 2) ⊎ IsSearchStatus status
 MayEnd (Ok (Judges words plan)) status = (status ≡ 0) ⊎ ((status ≡ 2) ⊎ (status ≡ 8))
-MayEnd (Ok (Makes orders seed)) status = (status ≡ 0) ⊎ ((status ≡ 3) ⊎ (status ≡ 4))
+MayEnd (Ok (Makes orders seed)) status = IsSearchStatus status
 
 -- words that can't stand, and those that make a mill, open no file
 abbrev pub LeavesUnread : Parsed Command → Told → Told → Type 0

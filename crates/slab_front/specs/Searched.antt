@@ -1,5 +1,6 @@
 -- What a search of a mill comes to: the points of a certificate and its ending, with the nodes that it took.
-use Rattle.std.specs.Prelude.{◌≡◌, ◌⊎◌, ℕ, ◌+◌, ◌*◌, ◌<◌, ◌≤◌, List, [], ◌∷◌, length, map, All, Option, Some, None}
+use Rattle.std.specs.Prelude.{◌≡◌, ◌⊎◌, ℕ, ◌+◌, ◌*◌, ◌<◌, ◌≤◌, List, [], ◌∷◌, length, map, Option, Some, None}
+use Rattle.std.specs.List.{AllByRecursion}
 use Rattle.mill_model.specs.declared.ask.Ask.{Ask}
 use Rattle.mill_model.specs.declared.sums.Sums.{Sums}
 use Rattle.mill_model.specs.declared.version.Version.TheVariants.{Two}
@@ -81,7 +82,7 @@ attained points = map (λ (point : Point). (point.sums, point.plan)) points
 -- their least order, and has the point's sums.
 pub record AreTheFront (m : Mill) (points : List Point) : Type 0 where
   pub front : IsFront m (sums_list points)
-  pub plans : All (IsPoint m) (attained points)
+  pub plans : AllByRecursion (IsPoint m) (attained points)
 
 -- The trees of the points that were added to those before were made by the search: each is lean, and each of its marks shows a
 -- cover within the limits with which its question opened, or is bare. A question opens with one less than the loss of the

@@ -5,7 +5,6 @@ ghost use Rattle.slab_relax.specs.Tallies.{AreNoLess};
 ghost use Rattle.cert_write.specs.Stored.{certificate_of as certificate_stored};
 ghost use Rattle.slab_front.specs.Words.{most_limit};
 ghost use Rattle.slab_front.specs.Searched.{IsSearched, certificate_of, status_of, word_of};
-ghost use Rattle.slab_front.specs.Searches.{searched};
 
 use cert_write::Stored;
 use mill_model::{Head, Mill};
@@ -30,13 +29,13 @@ pub struct Search {
 impl Model for Search {
     ghost use Rattle.std.specs.Prelude.{◌≡◌, []};
     ghost use Rattle.slab_front.specs.Searched.{Searched};
-    ghost use Rattle.slab_front.specs.Searches.{searched};
+    ghost use Rattle.slab_front.specs.Searches.{searched, HasPointIfWhole};
 
     ghost Value = { Searched };
 
     ghost view = { λ s. searched s.swept s.opened s.bare };
 
-    ghost invariant = { λ s. s.none ≡ [] };
+    ghost invariant = { λ s. (s.none ≡ []) × HasPointIfWhole s.swept };
 }
 
 /// The Pareto front of a mill by first fit and a sweep, in which one question's tree may have so many nodes. The only error is
