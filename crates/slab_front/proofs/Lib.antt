@@ -1,5 +1,5 @@
 pub mod Telling
 pub mod Owing
 pub mod Ends
+pub mod Stores
 pub mod Searching
-

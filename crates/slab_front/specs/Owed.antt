@@ -14,7 +14,7 @@ use Rattle.mill_read.specs.PlanFile.{plan_file}
 use Rattle.slab_relax.specs.declared.tally.Tally.{Tally}
 use Rattle.slab_start.specs.Made.{made_mill}
 use Rattle.cert_text.specs.Texts.{certificate_text}
-use Rattle.mill_report.specs.Report.{report_text, summary_text}
+use Rattle.mill_report.specs.Reports.{report_text, summary_text}
 use Rattle.slab_front.specs.declared.texts.Source.{Source}
 use Rattle.slab_front.specs.declared.texts.Source.TheVariants.{Orders, Yard as YardSource, Plan as PlanSource}
 use Rattle.slab_front.specs.Words.{MillWords, Command, Parsed, job_of, default_nodes}

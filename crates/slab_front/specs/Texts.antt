@@ -1,5 +1,5 @@
 -- What is said. Each text is lines, each ended by a line feed; orders, slabs and words are numbered from 1.
-use Rattle.std.specs.Prelude.{◌≡◌, ℕ, ◌+◌, List, [], ◌∷◌, codes}
+use Rattle.std.specs.Prelude.{◌≡◌, ℕ, ◌+◌, List, [], ◌∷◌, ◌++◌, codes}
 use Rattle.std.specs.Fmt.{decimal}
 use Rattle.mill_model.specs.declared.sums.Sums.{Sums}
 use Rattle.mill_model.specs.declared.illegal.Illegal.{Illegal}
@@ -7,9 +7,17 @@ use Rattle.mill_model.specs.declared.illegal.Illegal.TheVariants.{Places, Place,
 use Rattle.mill_read.specs.declared.fault.TextFault.{TextFault}
 use Rattle.mill_read.specs.declared.fault.Why.{Why}
 use Rattle.mill_read.specs.declared.fault.Why.TheVariants.{Missing, NotNumber, Range, Colour, Kind, Extra}
-use Rattle.mill_report.specs.Report.{line}
 use Rattle.slab_front.specs.declared.texts.Source.{Source}
 use Rattle.slab_front.specs.declared.texts.Source.TheVariants.{Orders, Yard as YardSource, Plan as PlanSource}
+
+-- words with a space before each, and a line feed
+abbrev pub spaced : List (List ℕ) → List ℕ
+spaced [] = 10 ∷ []
+spaced (word ∷ words) = 32 ∷ (word ++ spaced words)
+
+-- a line of one word and others
+abbrev pub line : List ℕ → List (List ℕ) → List ℕ
+line word words = word ++ spaced words
 
 abbrev pub memory_text : List ℕ
 memory_text = line (codes "memory") []

@@ -19,7 +19,7 @@ use slab_desk::{Desk, Failed, say_all};
 pub fn give<D: Desk>(desk: &mut D, answer: Answer<'_>) -> u8
     requires status { status_for answer ≢ 5 }
     requires calls { IsStoppedBy (Ok answer) (D.stopped desk.old) }
-    ensures finishes { Finishes (status_for answer) (outcome_for answer) (D.told desk.old) (D.told desk.new) result }
+    ensures finishes { Finishes (status_for answer.entry) (outcome_for answer.entry) (D.told desk.old) (D.told desk.new) result }
     ensures ends { EndsByFaults (D.faults desk.old) (D.faults desk.new) (D.stopped desk.new) result }
 {
     match answer {
@@ -61,6 +61,7 @@ fn store_and_say<D: Desk>(desk: &mut D, name: &str, mill: &Mill, search: &Search
 fn store<D: Desk>(desk: &mut D, name: &str, mill: &Mill, search: &Search) -> Result<(), Failed>
     ensures stores { OnOk result (Steps (D.told desk.old) (D.told desk.new) (Gives (storing name.now (certificate_text (certificate_of search.now))))) }
     ensures begins { OnErr result (Steps (D.told desk.old) (D.told desk.new) (λ old new. SaysOnly [] old new ⊎ BeginsToStore (Some (name.now, certificate_text (certificate_of search.now))) old new)) }
+    ensures unread { Steps (D.told desk.old) (D.told desk.new) (λ old new. new.left ≡ old.left) }
     ensures cause { HasCause (D.faults desk.old) (D.faults desk.new) result }
     ensures stopped { D.stopped desk.new ≡ is_err result }
 {

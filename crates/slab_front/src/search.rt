@@ -2,7 +2,7 @@ ghost use Rattle.std.specs.Prelude.{◌≡◌, [], IfOk};
 ghost use Rattle.mill_model.specs.Mill.{IsBetween};
 ghost use Rattle.mill_model.specs.declared.version.Version.TheVariants.{Two};
 ghost use Rattle.slab_relax.specs.Tallies.{AreNoLess};
-ghost use Rattle.cert_write.specs.Stored.{certificate_of as certificate_stored};
+ghost use Rattle.cert_write.specs.Parts.{certificate_of as certificate_stored};
 ghost use Rattle.slab_front.specs.Words.{most_limit};
 ghost use Rattle.slab_front.specs.Searched.{IsSearched, certificate_of, status_of, word_of};
 
@@ -40,7 +40,7 @@ impl Model for Search {
 
 /// The Pareto front of a mill by first fit and a sweep, in which one question's tree may have so many nodes. The only error is
 /// want of memory.
-pub fn search(
+pub fn search_front(
     alloc: Global,
     mill: &Mill,
     limit: u64,

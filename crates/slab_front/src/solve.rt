@@ -9,7 +9,7 @@ ghost use Rattle.slab_front.specs.Endings.{HasOnlyRead, is_fault, IsAnswer, IsSt
 
 use crate::ending::{Answer, Stop};
 use crate::files::read_mill;
-use crate::search::search;
+use crate::search::search_front;
 use mill_model::Mill;
 use slab_desk::Desk;
 use slab_node::Tally;
@@ -41,7 +41,7 @@ pub fn solve<'a, D: Desk>(
     ensures counters { AreNoLess tally.old tally.new }
 {
     let mill = read_mill(alloc, desk, orders, yard, colours)?;
-    let search = search(alloc, &mill, limit, tally)?;
+    let search = search_front(alloc, &mill, limit, tally)?;
     Ok(Answer::Stored(cert, mill, search))
 }
 
@@ -58,6 +58,6 @@ pub fn make(
     ensures counters { AreNoLess tally.old tally.new }
 {
     let mill = make_mill(alloc, orders, seed)?;
-    let search = search(alloc, &mill, DEFAULT_NODES, tally)?;
+    let search = search_front(alloc, &mill, DEFAULT_NODES, tally)?;
     Ok(Answer::SummedUp(mill, search))
 }

@@ -73,7 +73,7 @@ fn solve(words: &[String]) -> Result<Job<'_>, UsageAt>
 {
     let (orders, rest) = file_word(words, 2)?;
     let (cert, rest) = file_word(rest, 3)?;
-    let options = options(rest, true)?;
+    let options = read_options(rest, true)?;
     Ok(Job::Solve {
         orders,
         cert,
@@ -90,7 +90,7 @@ fn judge(words: &[String]) -> Result<Job<'_>, UsageAt>
 {
     let (orders, rest) = file_word(words, 2)?;
     let (plan, rest) = file_word(rest, 3)?;
-    let options = options(rest, false)?;
+    let options = read_options(rest, false)?;
     Ok(Job::Judge {
         orders,
         plan,
@@ -114,7 +114,7 @@ fn make(words: &[String]) -> Result<Job<'_>, UsageAt>
 }
 
 // The words that are left are options. The first has the number 4.
-fn options(words: &[String], searches: bool) -> Result<Options<'_>, UsageAt>
+fn read_options(words: &[String], searches: bool) -> Result<Options<'_>, UsageAt>
     ensures options { IsParsed options_of result (options_from searches 4 no_options (map string_bytes words.now)) }
     ensures ranges { IfOk result AreInRanges }
 {
@@ -155,9 +155,9 @@ impl<'a> Options<'a> {
         searches: bool,
     ) -> Result<Options<'a>, UsageAt>
         requires ranges { AreInRanges self }
-        ensures options { IsParsed options_of result (with_one_more searches (word_after (options_of self)) (options_of self) name.now (name_bytes value)) }
+        ensures options { IsParsed options_of result (with_one_more searches (word_after (options_of self.entry)) (options_of self.entry) name.now (name_bytes value.entry)) }
         ensures ranges { IfOk result AreInRanges }
-        ensures next { IfOk result (λ options. word_after (options_of options) ≡ word_after (options_of self) + 2) }
+        ensures next { IfOk result (λ options. word_after (options_of options) ≡ word_after (options_of self.entry) + 2) }
     {
         let number = self.next_word();
         let wrong = UsageAt { word: number + 1 };
@@ -244,7 +244,7 @@ fn spelled(word: &str) -> Option<u64>
 
 // The file that is named, where a word is given and names one.
 fn given_file(word: Option<&str>) -> Option<&str>
-    ensures { name_bytes result ≡ option_and_then file_named (name_bytes word) }
+    ensures { name_bytes result ≡ option_and_then file_named (name_bytes word.entry) }
 {
     match word {
         Some(word) if is_file_name(word) => Some(word),
@@ -254,7 +254,7 @@ fn given_file(word: Option<&str>) -> Option<&str>
 
 // The number within these bounds, where a word is given and is one's decimal text.
 fn given_number(word: Option<&str>, least: u64, most: u64) -> Option<u64>
-    ensures named { result ≡ option_and_then (number_named least most) (name_bytes word) }
+    ensures named { result ≡ option_and_then (number_named least most) (name_bytes word.entry) }
     ensures within { IfSome result (IsBetween least most) }
 {
     match word {
