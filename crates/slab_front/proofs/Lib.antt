@@ -2,4 +2,5 @@ pub mod Telling
 pub mod Owing
 pub mod Ends
 pub mod Stores
+pub mod Numbers
 pub mod Searching

@@ -7,6 +7,7 @@ use Rattle.mill_model.specs.declared.illegal.Illegal.{Illegal}
 use Rattle.mill_model.specs.Mill.{Mill, with_yard}
 use Rattle.mill_model.specs.Plans.{Plan, IsLegal, sums_of}
 use Rattle.mill_model.specs.Judging.{first_broken}
+use Rattle.mill_model.specs.Fronts.{Point}
 use Rattle.mill_read.specs.declared.fault.TextFault.{TextFault}
 use Rattle.mill_read.specs.OrderFile.{order_file}
 use Rattle.mill_read.specs.YardFile.{yard_file}

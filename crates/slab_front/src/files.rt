@@ -27,8 +27,8 @@ pub fn read_mill<D: Desk>(
     colours: u16,
 ) -> Result<Mill, Stop>
     requires { IsBetween 1 most_colour_limit colours }
-    ensures mill { IfOk result (λ mill. WhereTold (D.told desk.old) (λ t. HasMill (named_mill orders yard.entry colours) mill t.files)) }
-    ensures reads { HasOnlyRead (IsStop (λ files. OwesOfMill Nothing files (named_mill orders yard.entry colours)))
+    ensures mill { IfOk result (λ mill. WhereTold (D.told desk.old) (λ t. HasMill (named_mill orders.entry yard.entry colours) mill t.files)) }
+    ensures reads { HasOnlyRead (IsStop (λ files. OwesOfMill Nothing files (named_mill orders.entry yard.entry colours)))
         (D.told desk.old) (D.told desk.new) (D.faults desk.old) (D.faults desk.new) result }
     ensures stopped { D.stopped desk.new ≡ is_fault result }
 {

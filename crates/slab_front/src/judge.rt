@@ -24,9 +24,9 @@ pub fn judge<D: Desk>(
     colours: u16,
 ) -> Result<Ending, Stop>
     requires { IsBetween 1 most_colour_limit colours }
-    ensures ending { IfOk result (IsEnding (λ files. OwesOfMill (OwesOfPlan files plan.now) files (named_mill orders yard.entry colours)) (D.told desk.old)) }
+    ensures ending { IfOk result (IsEnding (λ files. OwesOfMill (OwesOfPlan files plan.now) files (named_mill orders.entry yard.entry colours)) (D.told desk.old)) }
     ensures status { IfOk result (λ ending. (ending.status ≡ 0) ⊎ (ending.status ≡ 8)) }
-    ensures reads { HasOnlyRead (IsStop (λ files. OwesOfMill (OwesOfPlan files plan.now) files (named_mill orders yard.entry colours)))
+    ensures reads { HasOnlyRead (IsStop (λ files. OwesOfMill (OwesOfPlan files plan.now) files (named_mill orders.entry yard.entry colours)))
         (D.told desk.old) (D.told desk.new) (D.faults desk.old) (D.faults desk.new) result }
     ensures stopped { D.stopped desk.new ≡ is_fault result }
 {

@@ -1,4 +1,4 @@
-ghost use Rattle.std.specs.Prelude.{◌≤◌, [], IfOk};
+ghost use Rattle.std.specs.Prelude.{◌≡◌, ◌≤◌, [], IfOk};
 ghost use Rattle.mill_model.specs.Mill.{IsBetween, most_colour_limit, most_orders};
 ghost use Rattle.slab_start.specs.Made.{made_mill};
 ghost use Rattle.slab_relax.specs.Tallies.{AreNoLess};
@@ -33,9 +33,9 @@ pub fn solve<'a, D: Desk>(
 ) -> Result<Answer<'a>, Stop>
     requires limit { IsBetween 1 most_limit limit }
     requires colours { IsBetween 1 most_colour_limit colours }
-    ensures answer { IfOk result (IsAnswer (λ files. OwesOfMill (OwesSearch (stored_as cert.now) [] limit tally.old tally.new) files (named_mill orders yard.entry colours)) (D.told desk.old)) }
+    ensures answer { IfOk result (IsAnswer (λ files. OwesOfMill (OwesSearch (stored_as cert.now) [] limit tally.old tally.new) files (named_mill orders.entry yard.entry colours)) (D.told desk.old)) }
     ensures status { IfOk result (λ answer. IsSearchStatus (status_for answer)) }
-    ensures reads { HasOnlyRead (IsStop (λ files. OwesOfMill Nothing files (named_mill orders yard.entry colours)))
+    ensures reads { HasOnlyRead (IsStop (λ files. OwesOfMill Nothing files (named_mill orders.entry yard.entry colours)))
         (D.told desk.old) (D.told desk.new) (D.faults desk.old) (D.faults desk.new) result }
     ensures stopped { D.stopped desk.new ≡ is_fault result }
     ensures counters { AreNoLess tally.old tally.new }

@@ -234,6 +234,7 @@ fn number_in(word: &str, least: u64, most: u64) -> Option<u64>
 // The number whose decimal text the word is.
 fn spelled(word: &str) -> Option<u64>
     ensures some { IfSome result (λ n. word.now ≡ decimal n) }
+    ensures fits { IfSome result (λ n. n < 2 ^ 64) }
     ensures none { IfNone result ((n : ℕ) → n < 2 ^ 64 → word.now ≡ decimal n → ⊥) }
 {
     match word.parse::<u64>() {
