@@ -1,6 +1,13 @@
 -- What was stored and said, from the calls of a desk.
-use Rattle.std.proofs.Common.{◌≡◌, ◌≢◌, ◌⊎◌, inl, inr, ℕ, List, [], ◌∷◌, ◌++◌, Option, Some, None, refl, sym, ap, ◌∙◌, subst, append-nil, append_assoc}
+use Rattle.std.proofs.Common.{◌≡◌, ◌≢◌, ◌⊎◌, inl, inr, ℕ, List, [], ◌∷◌, ◌++◌, Option, Some, None, Result, Ok, Err, refl, sym, ap, ◌∙◌, subst, append-nil, append_assoc}
 use Rattle.std.specs.FinMap.{get, insert}
+use Rattle.std.specs.Prelude.{OnOk, OnErr}
+use Rattle.mill_model.specs.Mill.{Mill}
+use Rattle.mill_model.specs.Fronts.{Point}
+use Rattle.mill_report.specs.declared.word.Word.{Word}
+use Rattle.mill_report.specs.declared.word.Word.TheVariants.{Complete, Budget, NoPlan}
+use Rattle.mill_report.specs.Reports.{report_text, summary_text}
+use Rattle.slab_front.specs.Searched.{status_with}
 use Rattle.slab_desk.specs.Desk.{Told, Files, Steps, Stays, Creates, Appends, AppendsAll, Says, WithPrefix}
 use Rattle.slab_desk.proofs.Files.{get-insert_same, insert-insert_same}
 use Rattle.slab_desk.proofs.Steps.{steps_join, steps_weaker}
@@ -132,3 +139,28 @@ not_stored status name bytes text a b p u = record {
   short = λ _. steps_weaker a b (λ x y q. elim q [ | inl none ↦ inl none | inr begun ↦ inr (inl begun) ]) p;
   unread = u;
 }
+
+-- ---- results
+
+pub on_ok : {A E : Type 0} (r : Result A E) {P Q : Type 0} → (P → Q) → OnOk r P → OnOk r Q
+on_ok (Ok a) f p = f p
+on_ok (Err e) f p = tt
+
+pub on_err : {A E : Type 0} (r : Result A E) {P Q : Type 0} → (P → Q) → OnErr r P → OnErr r Q
+on_err (Ok a) f p = tt
+on_err (Err e) f p = f p
+
+-- ---- texts
+
+pub same_report : (h p : List Point) (o x : ℕ) (b y : ℕ) (w v : Word) → h ≡ p → o ≡ x → b ≡ y → w ≡ v → report_text h o b w ≡ report_text p x y v
+same_report h p o x b y w v hp ox by wv =
+    ap (λ (l : List Point). report_text l o b w) hp ∙ ap (λ (n : ℕ). report_text p n b w) ox ∙ ap (λ (n : ℕ). report_text p x n w) by ∙ ap (λ (u : Word). report_text p x y u) wv
+
+pub same_summary : (m : Mill) (h p : List Point) (o x : ℕ) (b y : ℕ) (w v : Word) → h ≡ p → o ≡ x → b ≡ y → w ≡ v → summary_text m h o b w ≡ summary_text m p x y v
+same_summary m h p o x b y w v hp ox by wv =
+    ap (λ (l : List Point). summary_text m l o b w) hp ∙ ap (λ (n : ℕ). summary_text m p n b w) ox ∙ ap (λ (n : ℕ). summary_text m p x n w) by ∙ ap (λ (u : Word). summary_text m p x y u) wv
+
+pub never_5 : (w : Word) → status_with w ≢ 5
+never_5 Complete e = cc
+never_5 Budget e = cc
+never_5 NoPlan e = cc
