@@ -14,10 +14,10 @@ taken true false d v p q r = cc
 taken false c d v p q r = cc
 
 left_out : (b c d : Bool) (v : ℕ) → (b ≡ true → c ≡ true → d ≡ true → ⊥) → (if b && (c && d) then Some v else None) ≡ None
-left_out true true true v no = absurd (no refl refl refl)
-left_out true true false v no = refl
-left_out true false d v no = refl
-left_out false c d v no = refl
+left_out true true true v never = absurd (never refl refl refl)
+left_out true true false v never = refl
+left_out true false d v never = refl
+left_out false c d v never = refl
 
 value_is : (n : ℕ) → n < 2 ^ 64 → digits_value 10 (decimal n) ≡ n
 value_is n fits = (decimal_is_IsNumeral n fits).1
@@ -44,6 +44,6 @@ named_beyond least most n word fits is out =
 
 -- and so does a word that is no number's text
 pub not_named : (least most : ℕ) (word : List ℕ) → most < 2 ^ 64 → ((n : ℕ) → n < 2 ^ 64 → word ≡ decimal n → ⊥) → number_named least most word ≡ None
-not_named least most word fits no =
+not_named least most word fits never =
     left_out (bytes_eq word (decimal (digits_value 10 word))) (nat_le least (digits_value 10 word)) (nat_le (digits_value 10 word) most) (digits_value 10 word)
-    (λ is _ high. no (digits_value 10 word) (omega (arith, fits, leb-true (digits_value 10 word) most high)) ((bytes_eq-Decides word (decimal (digits_value 10 word))).0 is))
+    (λ is _ high. never (digits_value 10 word) (omega (arith, fits, leb-true (digits_value 10 word) most high)) ((bytes_eq-Decides word (decimal (digits_value 10 word))).0 is))

@@ -1,5 +1,5 @@
 -- What a sweep answers is what a search finds.
-use Rattle.std.proofs.Common.{◌≡◌, ℕ, ◌+◌, ◌*◌, ◌<◌, ◌≤◌, ◌⊎◌, inl, inr, List, [], ◌∷◌, length, Option, Some, None, refl, arith}
+use Rattle.std.proofs.Common.{◌≡◌, ℕ, ◌+◌, ◌*◌, ◌<◌, ◌≤◌, ◌⊎◌, inl, inr, List, [], ◌∷◌, length, Option, Some, None, refl, sym, subst, arith}
 use Rattle.std.specs.List.{AllByRecursion}
 use Rattle.std.proofs.lemmas.Nat.{mul-le}
 use Rattle.slab_counter.specs.Counter.{last_count}
@@ -102,16 +102,10 @@ told_plainly m plain = record {
 few_nodes : (m : Mill) (limit : ℕ) → limit + 2 ≤ most_nodes m → limit < (length m.orders + 2) * most_nodes m
 few_nodes m limit few = omega (arith, mul-le 1 (most_nodes m) (length m.orders + 2) (most_nodes m) (omega arith) (omega arith))
 
-pub has_point : (m : Mill) (limit : ℕ) (was is : Tally) (new : Counts) (swept : Swept)
-    → IsSwept (Some first_fit) m [] (start limit) new was is swept → HasPointIfWhole swept
-has_point m limit was is new (Complete front) (whole, bares) = whole.some
-has_point m limit was is new (NoPlan last) given = tt
-has_point m limit was is new (Budget points rest) given = tt
-
 pub found : (m : Mill) (limit : ℕ) (was is : Tally) (new : Counts) (swept : Swept) → IsInLimits m → limit ≤ most_limit
     → IsSwept (Some first_fit) m [] (start limit) new was is swept
     → CountsNodes (made_nodes [] swept) (start limit) new
-    → (IsToldPlainly (Some first_fit) m → [] {A = Point} ≡ [] → IsSweptAtOnce (start limit) new swept)
+    → (IsToldPlainly (Some first_fit) m → ◌≡◌ {A = List Point} [] [] → IsSweptAtOnce (start limit) new swept)
     → OpensFew m (start limit) new → HaveCauses 0 was new.bare is → new.bare ≤ new.opened
     → IsSearched m [] limit was is (status_of (searched swept new.opened new.bare)) (searched swept new.opened new.bare)
 found m limit was is new (Complete front) limits fits (whole, bares) nodes plain opens causes among =
@@ -158,3 +152,28 @@ found m limit was is new (Budget points rest) limits fits (some, off, bares) nod
       unplain = λ _ is_plain. (plain (told_plainly m is_plain) refl).answer;
       counts = counted m limit some was is new s limits fits refl refl opens causes among nodes bares;
     }))
+
+-- the same from the calls of a search
+pub found_from : (m : Mill) (limit : ℕ) (was is : Tally) (old new : Counts) (head : List Point) (swept : Swept) (opened bare : ℕ)
+    → old ≡ start limit → head ≡ [] → opened ≡ new.opened → bare ≡ new.bare → IsInLimits m → limit ≤ most_limit
+    → IsSwept (Some first_fit) m head old new was is swept
+    → CountsNodes (made_nodes head swept) old new
+    → (IsToldPlainly (Some first_fit) m → head ≡ [] → IsSweptAtOnce old new swept)
+    → OpensFew m old new → HaveCauses old.bare was new.bare is → new.bare ≤ new.opened
+    → IsSearched m [] limit was is (status_of (searched swept opened bare)) (searched swept opened bare)
+found_from m limit was is old new head swept opened bare eo eh e1 e2 limits fits given nodes plain opens causes among =
+    subst (λ (x : ℕ). IsSearched m [] limit was is (status_of (searched swept x bare)) (searched swept x bare)) (sym e1)
+    (subst (λ (y : ℕ). IsSearched m [] limit was is (status_of (searched swept new.opened y)) (searched swept new.opened y)) (sym e2)
+    (found m limit was is new swept limits fits
+      (subst (λ (n : Counts). IsSwept (Some first_fit) m [] n new was is swept) eo (subst (λ (h : List Point). IsSwept (Some first_fit) m h old new was is swept) eh given))
+      (subst (λ (n : Counts). CountsNodes (made_nodes [] swept) n new) eo (subst (λ (h : List Point). CountsNodes (made_nodes h swept) old new) eh nodes))
+      (λ told none. subst (λ (n : Counts). IsSweptAtOnce n new swept) eo (plain told eh))
+      (subst (λ (n : Counts). OpensFew m n new) eo opens)
+      (subst (λ (n : Counts). HaveCauses n.bare was new.bare is) eo causes) among))
+
+-- a front that a sweep gave has a point
+pub has_point_from : (m : Mill) (limit : ℕ) (was is : Tally) (old new : Counts) (head : List Point) (swept : Swept)
+    → IsSwept (Some first_fit) m head old new was is swept → HasPointIfWhole swept
+has_point_from m limit was is old new head (Complete front) (whole, bares) = whole.some
+has_point_from m limit was is old new head (NoPlan last) given = tt
+has_point_from m limit was is old new head (Budget points rest) given = tt

@@ -49,7 +49,7 @@ gives_created name text x z q =
 
 appended : (name text : List ℕ) (x z : Told) → Appends text (record x { files = insert x.files name []; target = Some name }) z
     → z ≡ record x { files = insert x.files name text; target = Some name }
-appended name text x z (other, target, content, has, q) =
+appended name text x z (other, target, (content, has, q)) =
     let same : name ≡ other = some_same name other target in
     let empty : [] ≡ content = some_same [] content (sym (get-insert_same x.files name []) ∙ ap (get (insert x.files name [])) same ∙ has) in
     q ∙ ap (λ (f : Files). record x { files = f; target = Some name })
@@ -150,7 +150,13 @@ pub on_err : {A E : Type 0} (r : Result A E) {P Q : Type 0} → (P → Q) → On
 on_err (Ok a) f p = tt
 on_err (Err e) f p = f p
 
--- ---- texts
+-- whether it was written whole or not
+pub file_left : {A E : Type 0} (r : Result A E) (name text : List ℕ) (a b c : Option Told) → Steps a b (Creates name)
+    → OnOk r (Steps b c (AppendsAll text)) → OnErr r (Steps b c (WithPrefix AppendsAll text)) → Steps a c (λ x y. y.left ≡ x.left)
+file_left (Ok v) name text a b c p all some = file_unread name text a b c p all
+file_left (Err e) name text a b c p all some = file_begun_unread name text a b c p some
+
+-- ---- reports
 
 pub same_report : (h p : List Point) (o x : ℕ) (b y : ℕ) (w v : Word) → h ≡ p → o ≡ x → b ≡ y → w ≡ v → report_text h o b w ≡ report_text p x y v
 same_report h p o x b y w v hp ox by wv =

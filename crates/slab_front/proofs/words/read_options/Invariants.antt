@@ -5,8 +5,8 @@ use Rattle.slab_front.proofs.words.read_options.Given as goal
 
 abbrev pub invariant-options : goal.invariant-options
 invariant-options l =
-    (options_from l.searches 4 no_options (map string_bytes l.words.now) ≡ options_from l.searches (word_after (options_of l.options)) (options_of l.options) (map string_bytes l.rest.now))
+    (options_from l.searches 4 no_options (map string_bytes l.words) ≡ options_from l.searches (word_after (options_of l.options)) (options_of l.options) (map string_bytes l.rest))
     × AreInRanges l.options
 
 abbrev pub decreases-options : goal.decreases-options
-decreases-options l = length l.rest.now
+decreases-options l = length l.rest
