@@ -21,7 +21,7 @@ use Rattle.slab_sweep.specs.Made.{nodes_of, bares_of}
 use Rattle.slab_sweep.specs.Swept.{IsSwept, IsSweptAtOnce, IsToldPlainly, made_nodes, added_to}
 use Rattle.slab_start.specs.FirstFit.{first_fit}
 use Rattle.slab_start.specs.Plain.{IsPlainMill}
-use Rattle.cert_text.specs.Certificates.{Ending, Certificate, IsGood, AreMarksOf, finished_trees}
+use Rattle.cert_text.specs.Certificates.{Ending, Certificate, IsGood, ShowsFront, ShowsNoPlan, AreMarksOf, finished_trees}
 use Rattle.cert_text.specs.Certificates.Ending.{Whole, Cut}
 use Rattle.cert_text.proofs.Shown.{what_is_shown_holds}
 use Rattle.slab_front.specs.Words.{most_limit}
@@ -111,7 +111,7 @@ pub found : (m : Mill) (limit : ℕ) (was is : Tally) (new : Counts) (swept : Sw
 found m limit was is new (Complete front) limits fits (whole, bares) nodes plain opens causes among =
     let s : Searched = searched (Complete front) new.opened new.bare in
     let good : IsGood m (certificate_of s) = record { ended = whole.good; marks = free_marks (finished_trees (certificate_of s)) } in
-    let shows = record { good = good; whole = tt; some = whole.some } in
+    let shows : ShowsFront m (certificate_of s) = record { good = good; whole = tt; some = whole.some } in
     inl (complete_status front.points front.last whole.some, record {
       plan = some_plan m front.points whole.good.head whole.some;
       points = record { front = (what_is_shown_holds m (certificate_of s)).0 shows; plans = plans_of m None front.points whole.good.head };
@@ -125,7 +125,7 @@ found m limit was is new (Complete front) limits fits (whole, bares) nodes plain
 found m limit was is new (NoPlan last) limits fits (nothing, bares) nodes plain opens causes among =
     let s : Searched = searched (NoPlan last) new.opened new.bare in
     let good : IsGood m (certificate_of s) = record { ended = nothing.good; marks = free_marks (finished_trees (certificate_of s)) } in
-    let shows = record { good = good; whole = tt; none = refl } in
+    let shows : ShowsNoPlan m (certificate_of s) = record { good = good; whole = tt; none = refl } in
     inr (inr (refl, record {
       none = λ plan. (what_is_shown_holds m (certificate_of s)).1 shows plan.0 plan.1;
       points = refl;
