@@ -3,4 +3,5 @@ pub mod Owing
 pub mod Ends
 pub mod Stores
 pub mod Numbers
+pub mod OptionSteps
 pub mod Searching

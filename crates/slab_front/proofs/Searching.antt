@@ -89,6 +89,9 @@ cut_status : (points : List Point) (rest : List (Option _)) → status_with (end
 cut_status [] rest = refl
 cut_status (point ∷ points) rest = refl
 
+none_before : (x : ℕ) → x ≡ 0 + x
+none_before x = omega arith
+
 told_plainly : (m : Mill) → IsPlainMill m → IsToldPlainly (Some first_fit) m
 told_plainly m plain = record {
   plan = plain.plan;
@@ -133,7 +136,9 @@ found m limit was is new (NoPlan last) limits fits (nothing, bares) nodes plain 
       last = last;
       ending = refl;
       made = nothing.rest;
-      counts = counted m limit (bare_marks last.marks) was is new s limits fits refl refl opens causes among nodes bares;
+      counts = counted m limit (bare_marks last.marks) was is new s limits fits refl refl opens causes among
+          (subst (λ (x : ℕ). CountsNodes x (start limit) new) (none_before (length last.steps)) nodes)
+          (subst (λ (x : ℕ). CountsBares x (start limit) new was is) (none_before (bare_marks last.marks)) bares);
     }))
 found m limit was is new (Budget points rest) limits fits (some, off, bares) nodes plain opens causes among =
     let s : Searched = searched (Budget points rest) new.opened new.bare in
