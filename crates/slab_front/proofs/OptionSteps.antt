@@ -1,13 +1,8 @@
 -- One option more is read.
-use Rattle.std.proofs.Common.{◌≡◌, ℕ, zero, suc, ◌+◌, ◌-◌, ◌≤◌, Bool, List, [], ◌∷◌, length, map, take, drop, get_or, Some, Ok, refl, sym, ap, ◌∙◌, subst, arith}
+use Rattle.std.proofs.Common.{◌≡◌, ℕ, ◌+◌, ◌-◌, ◌≤◌, Bool, List, [], ◌∷◌, length, map, take, drop, get_or, Some, Ok, sym, ap, ◌∙◌, arith}
+use Rattle.std.proofs.lemmas.List.{take_all}
 use Rattle.slab_front.specs.Words.{Options, Parsed, ◌>>=◌, with_option, options_from}
 use Rattle.slab_front.specs.Jobs.{word_after}
-
-taken_all : {A : Type 0} (xs : List A) (n : ℕ) → n ≡ length xs → take n xs ≡ xs
-taken_all [] zero e = refl
-taken_all [] (suc n) e = refl
-taken_all (x ∷ xs) zero e = absurd (omega (arith, e))
-taken_all (x ∷ xs) (suc n) e = ap (λ ys. x ∷ ys) (taken_all xs n (omega (arith, e)))
 
 -- a list begins with its first two, and then has the others
 pub two_first : {A : Type 0} (f : A → List ℕ) (xs : List A) (a b : A) → 2 ≤ length xs → a ≡ get_or xs 0 a → b ≡ get_or xs 1 b
@@ -17,7 +12,7 @@ two_first f (x ∷ []) a b some p q = absurd (omega (arith, some))
 two_first f (x ∷ y ∷ zs) a b some p q =
     ap (λ u. f u ∷ (f y ∷ map f zs)) (sym p)
     ∙ ap (λ u. f a ∷ (f u ∷ map f zs)) (sym q)
-    ∙ ap (λ rest. f a ∷ (f b ∷ map f rest)) (sym (taken_all zs (length (x ∷ y ∷ zs) - 2) (omega arith)))
+    ∙ ap (λ rest. f a ∷ (f b ∷ map f rest)) (sym (take_all (length (x ∷ y ∷ zs) - 2) zs (omega arith)))
 
 pub next_option : (searches : Bool) (o next : Options) (words : List (List ℕ)) (name value read given : List ℕ) (left : List (List ℕ))
     → words ≡ name ∷ (value ∷ left) → read ≡ name → given ≡ value

@@ -19,7 +19,12 @@ use Rattle.slab_sweep.specs.declared.swept.Swept.TheVariants.{Complete, NoPlan, 
 use Rattle.slab_sweep.specs.Counting.{most_questions, OpensFew, CountsNodes, CountsBares}
 use Rattle.slab_sweep.specs.Made.{nodes_of, bares_of}
 use Rattle.slab_sweep.specs.Swept.{IsSwept, IsSweptAtOnce, IsToldPlainly, made_nodes, added_to}
-use Rattle.slab_start.specs.FirstFit.{first_fit}
+use Rattle.slab_start.specs.FirstFit.{first_fit, place_orders, by_weight, plan_of_filled}
+use Rattle.slab_start.specs.Made.{made_mill}
+use Rattle.slab_start.proofs.Started.{first_fit_starts}
+use Rattle.slab_start.proofs.MadePlain.{made_is_plain}
+use Rattle.mill_model.specs.Columns.{Column}
+use Rattle.std.specs.Option.{option_map}
 use Rattle.slab_start.specs.Plain.{IsPlainMill}
 use Rattle.cert_text.specs.Certificates.{Ending, Certificate, IsGood, ShowsFront, ShowsNoPlan, AreMarksOf, finished_trees}
 use Rattle.cert_text.specs.Certificates.Ending.{Whole, Cut}
@@ -89,6 +94,19 @@ cut_status : (points : List Point) (rest : List (Option _)) → status_with (end
 cut_status [] rest = refl
 cut_status (point ∷ points) rest = refl
 
+first_of_filled : (m : Mill) (filled : Option (List Column)) (plan : Plan) → IsInLimits m → place_orders m None (by_weight m) [] ≡ filled
+    → option_map (plan_of_filled m) filled ≡ Some plan → IsLegal m plan
+first_of_filled m None plan limits placed is = absurd (cc is)
+first_of_filled m (Some slabs) plan limits placed is =
+    subst (λ (p : Plan). IsLegal m p) (same_plan (plan_of_filled m slabs) plan is) (first_fit_starts m None slabs limits refl placed).legal
+  where
+    same_plan : (a b : Plan) → Some a ≡ Some b → a ≡ b
+    same_plan a b e = cc e
+
+-- the first-fit plan is legal
+first_is_legal : (m : Mill) (plan : Plan) → IsInLimits m → first_fit m None ≡ Some plan → IsLegal m plan
+first_is_legal m plan limits is = first_of_filled m (place_orders m None (by_weight m) []) plan limits refl is
+
 none_before : (x : ℕ) → x ≡ 0 + x
 none_before x = omega arith
 
@@ -131,6 +149,7 @@ found m limit was is new (NoPlan last) limits fits (nothing, bares) nodes plain 
     let shows : ShowsNoPlan m (certificate_of s) = record { good = good; whole = tt; none = refl } in
     inr (inr (refl, record {
       none = λ plan. (what_is_shown_holds m (certificate_of s)).1 shows plan.0 plan.1;
+      unplain = λ is_plain. (what_is_shown_holds m (certificate_of s)).1 shows is_plain.plan (first_is_legal m is_plain.plan limits is_plain.first);
       points = refl;
       shows = shows;
       last = last;
@@ -182,3 +201,13 @@ pub has_point_from : (m : Mill) (limit : ℕ) (was is : Tally) (old new : Counts
 has_point_from m limit was is old new head (Complete front) (whole, bares) = whole.some
 has_point_from m limit was is old new head (NoPlan last) given = tt
 has_point_from m limit was is old new head (Budget points rest) given = tt
+
+-- a made mill has a front
+pub made_found : (orders seed limit : ℕ) (was is : Tally) (m : Mill) (s : Searched) → m ≡ made_mill orders seed
+    → IsSearched m [] limit was is (status_of s) s → (status_of s ≡ 0) × FindsFront (made_mill orders seed) [] limit was is s
+made_found orders seed limit was is m s made found = only (subst (λ (x : Mill). IsSearched x [] limit was is (status_of s) s) made found)
+  where
+    only : IsSearched (made_mill orders seed) [] limit was is (status_of s) s → (status_of s ≡ 0) × FindsFront (made_mill orders seed) [] limit was is s
+    only (inl (zero, front)) = (zero, front)
+    only (inr (inl (three, cut))) = absurd (cut.unplain refl (made_is_plain orders seed).plain)
+    only (inr (inr (four, none))) = absurd (none.unplain (made_is_plain orders seed).plain)

@@ -76,6 +76,11 @@ abbrev pub OwesSearch : (Mill → Searched → Outcome) → List Point → ℕ �
 OwesSearch shown before limit was is m status outcome =
     (s : Searched) × IsSearched m before limit was is status s × (outcome ≡ shown m s)
 
+-- the front of a made mill, which is always found
+abbrev pub OwesMade : ℕ → ℕ → Tally → Tally → Owing
+OwesMade orders seed was is status outcome =
+    (status ≡ 0) × ((s : Searched) × FindsFront (made_mill orders seed) [] default_nodes was is s × (outcome ≡ summed_up (made_mill orders seed) s))
+
 -- ---- plans
 
 -- the sums, where the plan is legal, and else the first rule that it breaks
@@ -93,7 +98,7 @@ OwesOfPlan files name m = OwesOfFile PlanSource (plan_file (length m.orders)) (O
 abbrev pub OwesOfCommand : Command → Tally → Tally → Files → Owing
 OwesOfCommand (Solves words cert limit) was is files = OwesOfMill (OwesSearch (stored_as cert) [] limit was is) files words
 OwesOfCommand (Judges words plan) was is files = OwesOfMill (OwesOfPlan files plan) files words
-OwesOfCommand (Makes orders seed) was is files = OwesSearch summed_up [] default_nodes was is (made_mill orders seed)
+OwesOfCommand (Makes orders seed) was is files = OwesMade orders seed was is
 
 -- what the words ask for, or the first that can't stand
 abbrev pub OwesOfWords : Parsed Command → Tally → Tally → Files → Owing
@@ -114,7 +119,7 @@ abbrev pub MayEnd : Parsed Command → ℕ → Type 0
 MayEnd (Err number) status = status ≡ 1
 MayEnd (Ok (Solves words cert limit)) status = (status ≡ 2) ⊎ IsSearchStatus status
 MayEnd (Ok (Judges words plan)) status = (status ≡ 0) ⊎ ((status ≡ 2) ⊎ (status ≡ 8))
-MayEnd (Ok (Makes orders seed)) status = IsSearchStatus status
+MayEnd (Ok (Makes orders seed)) status = status ≡ 0
 
 -- words that can't stand, and those that make a mill, open no file
 abbrev pub LeavesUnread : Parsed Command → Told → Told → Type 0

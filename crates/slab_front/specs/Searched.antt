@@ -111,9 +111,10 @@ pub record FindsFront (m : Mill) (before : List Point) (limit : ℕ) (was is : T
   pub made : IsLastTree m s.points last
   pub counts : IsCounted m before limit (bare_marks last.marks) was is s
 
--- no plan is legal, with a good whole certificate that has no point
+-- no plan is legal, with a good whole certificate that has no point. That never comes for a plain mill
 pub record FindsNoPlan (m : Mill) (before : List Point) (limit : ℕ) (was is : Tally) (s : Searched) : Type 0 where
   pub none : HasPlan m → ⊥
+  pub unplain : IsPlainMill m → ⊥
   pub points : s.points ≡ []
   pub shows : ShowsNoPlan m (certificate_of s)
   pub last : MarkedSteps

@@ -1,10 +1,9 @@
 ghost use Rattle.std.specs.Prelude.{◌≡◌, ◌≤◌, Bool, [], Ok, IfOk};
 ghost use Rattle.mill_model.specs.Mill.{IsBetween, most_colour_limit, most_orders};
-ghost use Rattle.slab_start.specs.Made.{made_mill};
 ghost use Rattle.slab_relax.specs.Tallies.{AreNoLess};
-ghost use Rattle.slab_front.specs.Words.{most_limit, default_nodes};
+ghost use Rattle.slab_front.specs.Words.{most_limit};
 ghost use Rattle.slab_front.specs.Jobs.{named_mill};
-ghost use Rattle.slab_front.specs.Owed.{IsSearchStatus, OwesOfMill, OwesSearch, stored_as, summed_up, Nothing};
+ghost use Rattle.slab_front.specs.Owed.{IsSearchStatus, OwesOfMill, OwesSearch, OwesMade, stored_as, Nothing};
 ghost use Rattle.slab_front.specs.Endings.{HasOnlyRead, IsStoppedBy, is_fault, IsAnswer, IsStop, status_for, outcome_for};
 
 use crate::ending::{Answer, Stop};
@@ -53,8 +52,8 @@ pub fn make(
     seed: u32,
 ) -> Result<Answer<'static>, AllocError>
     requires { orders ≤ most_orders }
-    ensures owed { IfOk result (λ answer. OwesSearch summed_up [] default_nodes tally.old tally.new (made_mill orders seed) (status_for answer) (outcome_for answer)) }
-    ensures status { IfOk result (λ answer. IsSearchStatus (status_for answer)) }
+    ensures owed { IfOk result (λ answer. OwesMade orders seed tally.old tally.new (status_for answer) (outcome_for answer)) }
+    ensures status { IfOk result (λ answer. status_for answer ≡ 0) }
     ensures calls { IfOk result (λ answer. (failed : Bool) → IsStoppedBy (Ok answer) failed) }
     ensures counters { AreNoLess tally.old tally.new }
 {
