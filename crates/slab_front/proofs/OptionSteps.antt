@@ -21,7 +21,7 @@ pub next_option : (searches : Bool) (o next : Options) (words : List (List ℕ))
 next_option searches o next words name value read given left are p q is after =
     ap (options_from searches (word_after o) o) are
     ∙ ap (λ (r : Parsed Options). r >>= λ more. options_from searches (word_after o + 2) more left)
-        (ap (λ (n : List ℕ). with_option searches (word_after o) o n (Some value)) (sym p)
-        ∙ ap (λ (v : List ℕ). with_option searches (word_after o) o read (Some v)) (sym q)
-        ∙ is)
+    (ap (λ (n : List ℕ). with_option searches (word_after o) o n (Some value)) (sym p)
+    ∙ ap (λ (v : List ℕ). with_option searches (word_after o) o read (Some v)) (sym q)
+    ∙ is)
     ∙ ap (λ (n : ℕ). options_from searches n next left) (sym after)

@@ -133,49 +133,58 @@ found m limit was is new (Complete front) limits fits (whole, bares) nodes plain
     let s : Searched = searched (Complete front) new.opened new.bare in
     let good : IsGood m (certificate_of s) = record { ended = whole.good; marks = free_marks (finished_trees (certificate_of s)) } in
     let shows : ShowsFront m (certificate_of s) = record { good = good; whole = tt; some = whole.some } in
-    inl (complete_status front.points front.last whole.some, record {
-      plan = some_plan m front.points whole.good.head whole.some;
-      points = record { front = (what_is_shown_holds m (certificate_of s)).0 shows; plans = plans_of m None front.points whole.good.head };
-      shows = shows;
-      goes_on = whole.goes_on;
-      last = front.last;
-      ending = refl;
-      made = whole.rest;
-      counts = counted m limit (bare_marks front.last.marks) was is new s limits fits refl refl opens causes among nodes bares;
-    })
+    inl (
+      complete_status front.points front.last whole.some,
+      record {
+        plan = some_plan m front.points whole.good.head whole.some;
+        points = record { front = (what_is_shown_holds m (certificate_of s)).0 shows; plans = plans_of m None front.points whole.good.head };
+        shows = shows;
+        goes_on = whole.goes_on;
+        last = front.last;
+        ending = refl;
+        made = whole.rest;
+        counts = counted m limit (bare_marks front.last.marks) was is new s limits fits refl refl opens causes among nodes bares;
+      },
+    )
 found m limit was is new (NoPlan last) limits fits (nothing, bares) nodes plain opens causes among =
     let s : Searched = searched (NoPlan last) new.opened new.bare in
     let good : IsGood m (certificate_of s) = record { ended = nothing.good; marks = free_marks (finished_trees (certificate_of s)) } in
     let shows : ShowsNoPlan m (certificate_of s) = record { good = good; whole = tt; none = refl } in
-    inr (inr (refl, record {
-      none = λ plan. (what_is_shown_holds m (certificate_of s)).1 shows plan.0 plan.1;
-      unplain = λ is_plain. (what_is_shown_holds m (certificate_of s)).1 shows is_plain.plan (first_is_legal m is_plain.plan limits is_plain.first);
-      points = refl;
-      shows = shows;
-      last = last;
-      ending = refl;
-      made = nothing.rest;
-      counts = counted m limit (bare_marks last.marks) was is new s limits fits refl refl opens causes among
-          (subst (λ (x : ℕ). CountsNodes x (start limit) new) (none_before (length last.steps)) nodes)
-          (subst (λ (x : ℕ). CountsBares x (start limit) new was is) (none_before (bare_marks last.marks)) bares);
-    }))
+    inr (inr (
+      refl,
+      record {
+        none = λ plan. (what_is_shown_holds m (certificate_of s)).1 shows plan.0 plan.1;
+        unplain = λ is_plain. (what_is_shown_holds m (certificate_of s)).1 shows is_plain.plan (first_is_legal m is_plain.plan limits is_plain.first);
+        points = refl;
+        shows = shows;
+        last = last;
+        ending = refl;
+        made = nothing.rest;
+        counts = counted m limit (bare_marks last.marks) was is new s limits fits refl refl opens causes among
+            (subst (λ (x : ℕ). CountsNodes x (start limit) new) (none_before (length last.steps)) nodes)
+            (subst (λ (x : ℕ). CountsBares x (start limit) new was is) (none_before (bare_marks last.marks)) bares);
+      },
+    ))
 found m limit was is new (Budget points rest) limits fits (some, off, bares) nodes plain opens causes among =
     let s : Searched = searched (Budget points rest) new.opened new.bare in
     let good : IsGood m (certificate_of s) = record {
       ended = record { head = off.head; rest = off.cut.cut.open_tree };
       marks = free_marks (finished_trees (certificate_of s));
     } in
-    inr (inl (cut_status points rest, record {
-      shows = record { good = good; cut = tt };
-      goes_on = off.goes_on;
-      rest = rest;
-      ending = refl;
-      bares = some;
-      cut = off.cut;
-      below = few_nodes m limit off.cut.few;
-      unplain = λ _ is_plain. (plain (told_plainly m is_plain) refl).answer;
-      counts = counted m limit some was is new s limits fits refl refl opens causes among nodes bares;
-    }))
+    inr (inl (
+      cut_status points rest,
+      record {
+        shows = record { good = good; cut = tt };
+        goes_on = off.goes_on;
+        rest = rest;
+        ending = refl;
+        bares = some;
+        cut = off.cut;
+        below = few_nodes m limit off.cut.few;
+        unplain = λ _ is_plain. (plain (told_plainly m is_plain) refl).answer;
+        counts = counted m limit some was is new s limits fits refl refl opens causes among nodes bares;
+      },
+    ))
 
 -- the same from the calls of a search
 pub found_from : (m : Mill) (limit : ℕ) (was is : Tally) (old new : Counts) (head : List Point) (swept : Swept) (opened bare : ℕ)
@@ -189,11 +198,11 @@ found_from m limit was is old new head swept opened bare eo eh e1 e2 limits fits
     subst (λ (x : ℕ). IsSearched m [] limit was is (status_of (searched swept x bare)) (searched swept x bare)) (sym e1)
     (subst (λ (y : ℕ). IsSearched m [] limit was is (status_of (searched swept new.opened y)) (searched swept new.opened y)) (sym e2)
     (found m limit was is new swept limits fits
-      (subst (λ (n : Counts). IsSwept (Some first_fit) m [] n new was is swept) eo (subst (λ (h : List Point). IsSwept (Some first_fit) m h old new was is swept) eh given))
-      (subst (λ (n : Counts). CountsNodes (made_nodes [] swept) n new) eo (subst (λ (h : List Point). CountsNodes (made_nodes h swept) old new) eh nodes))
-      (λ told none. subst (λ (n : Counts). IsSweptAtOnce n new swept) eo (plain told eh))
-      (subst (λ (n : Counts). OpensFew m n new) eo opens)
-      (subst (λ (n : Counts). HaveCauses n.bare was new.bare is) eo causes) among))
+    (subst (λ (n : Counts). IsSwept (Some first_fit) m [] n new was is swept) eo (subst (λ (h : List Point). IsSwept (Some first_fit) m h old new was is swept) eh given))
+    (subst (λ (n : Counts). CountsNodes (made_nodes [] swept) n new) eo (subst (λ (h : List Point). CountsNodes (made_nodes h swept) old new) eh nodes))
+    (λ told none. subst (λ (n : Counts). IsSweptAtOnce n new swept) eo (plain told eh))
+    (subst (λ (n : Counts). OpensFew m n new) eo opens)
+    (subst (λ (n : Counts). HaveCauses n.bare was new.bare is) eo causes) among))
 
 -- a front that a sweep gave has a point
 pub has_point_from : (m : Mill) (limit : ℕ) (was is : Tally) (old new : Counts) (head : List Point) (swept : Swept)

@@ -53,9 +53,9 @@ appended name text x z (other, target, (content, has, q)) =
     let same : name ≡ other = some_same name other target in
     let empty : [] ≡ content = some_same [] content (sym (get-insert_same x.files name []) ∙ ap (get (insert x.files name [])) same ∙ has) in
     q ∙ ap (λ (f : Files). record x { files = f; target = Some name })
-        (ap (λ (n : List ℕ). insert (insert x.files name []) n (content ++ text)) (sym same)
-        ∙ ap (λ (c : List ℕ). insert (insert x.files name []) name (c ++ text)) (sym empty)
-        ∙ insert-insert_same x.files name [] text)
+    (ap (λ (n : List ℕ). insert (insert x.files name []) n (content ++ text)) (sym same)
+    ∙ ap (λ (c : List ℕ). insert (insert x.files name []) name (c ++ text)) (sym empty)
+    ∙ insert-insert_same x.files name [] text)
 
 appended_all : (name text : List ℕ) (x z : Told) → AppendsAll text (record x { files = insert x.files name []; target = Some name }) z
     → z ≡ record x { files = insert x.files name text; target = Some name }
@@ -136,7 +136,7 @@ pub not_stored : (status : ℕ) (name bytes text : List ℕ) (a b : Option Told)
 not_stored status name bytes text a b p u = record {
   status = inr refl;
   given = λ not. absurd (not refl);
-  short = λ _. steps_weaker a b (λ x y q. elim q [ | inl none ↦ inl none | inr begun ↦ inr (inl begun) ]) p;
+  short = λ _. steps_weaker a b (λ x y q. elim q [ inl none ↦ inl none | inr begun ↦ inr (inl begun) ]) p;
   unread = u;
 }
 

@@ -51,7 +51,13 @@ fn store_and_say<D: Desk>(desk: &mut D, name: &str, mill: &Mill, search: &Search
     if store(desk, name, mill, search).is_err() {
         return 5;
     }
-    match say_report(search.head(), search.opened(), search.bare(), search.word(), desk) {
+    match say_report(
+        search.head(),
+        search.opened(),
+        search.bare(),
+        search.word(),
+        desk,
+    ) {
         Ok(()) => search.status(),
         Err(_) => 5,
     }
@@ -74,7 +80,14 @@ fn sum_up<D: Desk>(desk: &mut D, mill: &Mill, search: &Search) -> u8
     ensures finishes { Finishes (status_of search.now) (summed_up mill.now search.now) (D.told desk.old) (D.told desk.new) result }
     ensures ends { EndsByFaults (D.faults desk.old) (D.faults desk.new) (D.stopped desk.new) result }
 {
-    match say_summary(mill, search.head(), search.opened(), search.bare(), search.word(), desk) {
+    match say_summary(
+        mill,
+        search.head(),
+        search.opened(),
+        search.bare(),
+        search.word(),
+        desk,
+    ) {
         Ok(()) => search.status(),
         Err(_) => 5,
     }

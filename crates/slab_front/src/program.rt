@@ -106,9 +106,7 @@ fn answer<'a, D: Desk>(
             plan,
             yard,
             colours,
-        } => Ok(Answer::Text(judge(
-            alloc, desk, orders, plan, yard, colours,
-        )?)),
+        } => Ok(Answer::Text(judge(alloc, desk, orders, plan, yard, colours)?)),
         Job::Make { orders, seed } => Ok(make(alloc, tally, orders, seed)?),
     }
 }

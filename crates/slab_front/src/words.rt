@@ -10,7 +10,9 @@ use mill_model::{MOST_COLOUR_LIMIT, MOST_ORDERS};
 use thiserror::Error;
 
 const DEFAULT_NODES: u64 = 1000000;
+
 const DEFAULT_COLOURS: u16 = 2;
+
 const MOST_NODES: u64 = 1000000000000000;
 
 /// What the words ask for, with the names of the files.
@@ -33,7 +35,10 @@ pub enum Job<'a> {
         colours: u16,
     },
     /// The Pareto front of the mill of so many orders, at most 250, that a number makes.
-    Make { orders: u16, seed: u32 },
+    Make {
+        orders: u16,
+        seed: u32,
+    },
 }
 
 /// The number of the first word that can't stand, from 1, or the number of words plus 1 where a word is missing.
@@ -163,15 +168,24 @@ impl<'a> Options<'a> {
         let wrong = UsageAt { word: number + 1 };
         if name == "--yard" && self.yard.is_none() {
             let yard = given_file(value).ok_or(wrong)?;
-            return Ok(Options { yard: Some(yard), ..self });
+            return Ok(Options {
+                yard: Some(yard),
+                ..self
+            });
         }
         if name == "--nodes" && searches && self.nodes.is_none() {
             let nodes = given_number(value, 1, MOST_NODES).ok_or(wrong)?;
-            return Ok(Options { nodes: Some(nodes), ..self });
+            return Ok(Options {
+                nodes: Some(nodes),
+                ..self
+            });
         }
         if name == "--colours" && self.colours.is_none() {
             let colours = given_number(value, 1, u64::from(MOST_COLOUR_LIMIT)).ok_or(wrong)?;
-            return Ok(Options { colours: Some(colours as u16), ..self });
+            return Ok(Options {
+                colours: Some(colours as u16),
+                ..self
+            });
         }
         Err(UsageAt { word: number })
     }
@@ -188,7 +202,12 @@ fn file_word(words: &[String], number: u32) -> Result<(&str, &[String]), UsageAt
 }
 
 // The first of the words, which has this number and is a number within these bounds, and the words after it.
-fn number_word(words: &[String], number: u32, least: u64, most: u64) -> Result<(u64, &[String]), UsageAt>
+fn number_word(
+    words: &[String],
+    number: u32,
+    least: u64,
+    most: u64,
+) -> Result<(u64, &[String]), UsageAt>
     ensures parsed { IsParsed (λ r. (r.0, map string_bytes r.1.now)) result (word_at (number_named least most) number (map string_bytes words.now)) }
     ensures within { IfOk result (λ r. IsBetween least most r.0) }
 {

@@ -31,7 +31,12 @@ fn a_failing_call_ends_a_run(rt: HostRuntime) -> Result<(), Fail> {
 #[test]
 fn files_are_read_in_order(rt: HostRuntime) -> Result<(), Fail> {
     for (orders, yard, words, said) in [
-        ("x", "0", "judge orders none", "input orders word 1 number\n"),
+        (
+            "x",
+            "0",
+            "judge orders none",
+            "input orders word 1 number\n",
+        ),
         (
             "x",
             "0",

@@ -49,7 +49,11 @@ fn a_slab_takes_so_many_colours(rt: HostRuntime) -> Result<(), Fail> {
     for (words, status, said) in [
         ("judge orders plan", 8, "illegal slab 1 colours\n"),
         ("judge orders plan --colours 3", 0, "legal 0 1\n"),
-        ("judge orders plan --colours 1", 8, "illegal slab 1 colours\n"),
+        (
+            "judge orders plan --colours 1",
+            8,
+            "illegal slab 1 colours\n",
+        ),
     ] {
         files.answer(&rt, rt.alloc(), words, status, said)?;
     }

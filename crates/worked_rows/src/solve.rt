@@ -4,7 +4,9 @@ use crate::runs::run_refused;
 use std::test::Fail;
 
 const TWO: &str = "2 4 10 1 2 4 1 4 1";
+
 const THREE_COLOURS: &str = "1 9 3 3 3 1 3 2 3 3";
+
 const THREE_FIVES: &str = "1 10 1 3 5 1 5 1 5 1";
 
 // Order file, yard file, the words after `solve orders cert`, status, what is said.
@@ -87,8 +89,20 @@ const ROWS: [(&str, &str, &str, u8, &str); 14] = [
         "front 0\nnodes 1 bare 0\nbudget\n",
     ),
     ("1 10 1 1 5 2", "", "", 2, "input orders word 6 colour\n"),
-    (TWO, "1 8 1 3 1", " --yard yard", 2, "input yard word 4 range\n"),
-    (TWO, "1 8 1 2", " --yard yard", 2, "input yard word 5 missing\n"),
+    (
+        TWO,
+        "1 8 1 3 1",
+        " --yard yard",
+        2,
+        "input yard word 4 range\n",
+    ),
+    (
+        TWO,
+        "1 8 1 2",
+        " --yard yard",
+        2,
+        "input yard word 5 missing\n",
+    ),
 ];
 
 #[test]
@@ -126,12 +140,7 @@ const FRONTS: [(&str, &str, &str, &str); 6] = [
         " --yard yard",
         "front 1\npoint 0 0\nold 1 1 2\nnodes ",
     ),
-    (
-        TWO,
-        "1 8 1 2 1",
-        " --yard yard",
-        "front 2\npoint 0 2\n",
-    ),
+    (TWO, "1 8 1 2 1", " --yard yard", "front 2\npoint 0 2\n"),
     (
         "1 10 1 5 5 1 5 1 5 1 5 1 5 1",
         "",
@@ -178,7 +187,10 @@ fn a_mill_is_made(rt: HostRuntime) -> Result<(), Fail> {
             "make 250 7",
             "made 250 5500\npoint 0 125\nnodes 2 bare 0\ncomplete\n",
         ),
-        ("make 0 0", "made 0 0\npoint 0 0\nnodes 2 bare 0\ncomplete\n"),
+        (
+            "make 0 0",
+            "made 0 0\npoint 0 0\nnodes 2 bare 0\ncomplete\n",
+        ),
     ] {
         files.answer(&rt, rt.alloc(), words, 0, said)?;
     }

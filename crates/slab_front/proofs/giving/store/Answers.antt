@@ -14,7 +14,7 @@ returns-clause-stores g c =
     let made : Option Told = g.D.Desk.told c.create_file.new.self in
     let new : Option Told = g.D.Desk.told c.write_cert.new.desk in
     on_ok c.write_cert.result (λ q. file_stored c.args.name.now text old made new c.in_ok-create_file.ensures.creates
-        (subst (λ (x : Certificate). Steps made new (AppendsAll (certificate_text x))) c.stored.ensures q)) c.write_cert.ensures.all
+    (subst (λ (x : Certificate). Steps made new (AppendsAll (certificate_text x))) c.stored.ensures q)) c.write_cert.ensures.all
 
 pub returns-clause-begins : goal.returns-clause-begins
 returns-clause-begins g c =
@@ -23,4 +23,4 @@ returns-clause-begins g c =
     let made : Option Told = g.D.Desk.told c.create_file.new.self in
     let new : Option Told = g.D.Desk.told c.write_cert.new.desk in
     on_err c.write_cert.result (λ q. file_begun c.args.name.now text old made new c.in_ok-create_file.ensures.creates
-        (subst (λ (x : Certificate). Steps made new (WithPrefix AppendsAll (certificate_text x))) c.stored.ensures q)) c.write_cert.ensures.prefix
+    (subst (λ (x : Certificate). Steps made new (WithPrefix AppendsAll (certificate_text x))) c.stored.ensures q)) c.write_cert.ensures.prefix
