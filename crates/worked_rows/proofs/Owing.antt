@@ -31,7 +31,7 @@ OfBytes source reading owes bytes status o = MatchBool (nat_lt most_bytes (lengt
 pub of_file : {A : Type 0} (source : Source) (reading : List ℕ → Result A TextFault) (owes : A → Owing) (files : Files) (name bytes : List ℕ) (r : Result A TextFault) (status : ℕ) (o : Outcome)
     → get files name ≡ Some bytes → nat_lt most_bytes (length bytes) ≡ false → reading bytes ≡ r → OwesOfReading source owes r status o → OwesOfFile source reading owes files name status o
 of_file {A = A} source reading owes files name bytes r status o has short is owed =
-    subst (λ (o : Option (List ℕ)). MatchOption o ⊥ (λ b. OfBytes source reading owes b status o)) (sym has)
+    subst (λ (there : Option (List ℕ)). MatchOption there ⊥ (λ b. OfBytes source reading owes b status o)) (sym has)
     (subst (λ b. MatchBool b (Exactly 2 (long_text source) status o) (OwesOfReading source owes (reading bytes) status o)) (sym short)
     (subst (λ (x : Result A TextFault). OwesOfReading source owes x status o) (sym is) owed))
 
@@ -40,7 +40,7 @@ pub to_reading : {A : Type 0} (source : Source) (reading : List ℕ → Result A
 to_reading {A = A} source reading owes files name bytes r status o has short is owed =
     subst (λ (x : Result A TextFault). OwesOfReading source owes x status o) is
     (subst (λ b. MatchBool b (Exactly 2 (long_text source) status o) (OwesOfReading source owes (reading bytes) status o)) short
-    (subst (λ (o : Option (List ℕ)). MatchOption o ⊥ (λ b. OfBytes source reading owes b status o)) has owed))
+    (subst (λ (there : Option (List ℕ)). MatchOption there ⊥ (λ b. OfBytes source reading owes b status o)) has owed))
 
 -- the words that name the order file, maybe the yard file, and no colour limit
 abbrev pub words_with : Option (List ℕ) → MillWords
