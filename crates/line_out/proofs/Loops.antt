@@ -28,8 +28,8 @@ pub puts_next : {sends : List ℕ → Told → Told → Type 0} {A : Type 0} (te
     → Puts sends (text (take i xs)) a b → Puts sends (text (x ∷ [])) b c → Puts sends (text (take (i + 1) xs)) a c
 puts_next text joined xs i d x h is a b c p q =
     puts_same _ _ a c
-      (sym (ap text (take_more xs i d h ∙ ap (λ y. take i xs ++ (y ∷ [])) is) ∙ joined (take i xs) (x ∷ [])))
-      (puts_then (text (take i xs)) (text (x ∷ [])) a b c p q)
+    (sym (ap text (take_more xs i d h ∙ ap (λ y. take i xs ++ (y ∷ [])) is) ∙ joined (take i xs) (x ∷ [])))
+    (puts_then (text (take i xs)) (text (x ∷ [])) a b c p q)
 
 -- a text that was put whole, through a new buffer, is sent
 pub whole_is_sent : {sends : List ℕ → Told → Told → Type 0} {T E : Type 0} (text : List ℕ) (buffer : Waiting) (a b c : Seen) (result : Result T E)

@@ -9,4 +9,4 @@ pub returns : goal.returns
 returns g c =
     let text : c.as_bytes.result.now ≡ signed_decimal c.args.number = c.as_bytes.ensures.value ∙ c.format.ensures.text ∙ ap signed_decimal (to_z-of_z w64 c.args.number c.ranges.number) in
     subst (λ (t : List ℕ). Puts g.E.End.sends (32 ∷ t) (c.args.self.now, g.E.End.seen c.args.desk.now) (c.put-2.new.self, g.E.End.seen c.put-2.new.desk)) text
-      (puts_then _ _ _ _ _ c.put.ensures c.put-2.ensures)
+    (puts_then _ _ _ _ _ c.put.ensures c.put-2.ensures)
