@@ -17,9 +17,9 @@ returns g c =
     let second = seen c.put_report.new.desk in
     let last = seen c.finish.new.desk in
     let puts : Puts Says text (empty false, first) (c.put_report.new.out, second) =
-      subst (λ (buffer : Waiting). Puts Says text (buffer, first) (c.put_report.new.out, second)) c.new-out.ensures c.put_report.ensures in
+    subst (λ (buffer : Waiting). Puts Says text (buffer, first) (c.put_report.new.out, second)) c.new-out.ensures c.put_report.ensures in
     let sent : IsSent Says text first last c.finish.result =
-      whole_is_sent text c.put_report.new.out first second last c.finish.result says_nothing puts c.finish.ensures in
+    whole_is_sent text c.put_report.new.out first second last c.finish.result says_nothing puts c.finish.ensures in
     record {
       all = sent.all;
       prefix = sent.prefix;
