@@ -3,7 +3,7 @@
 # Usage: bench/closed_streams.sh        (builds crates/slabfront first)
 set -eu
 cd "$(dirname "$0")/../crates/slabfront"
-rt run -- solve data/orders cert >/dev/null
+rt run -- solve data/orders "$(mktemp)" >/dev/null
 program="$PWD/out/slabfront"
 here=$(mktemp -d)
 cp data/orders "$here"
@@ -11,5 +11,6 @@ cd "$here"
 "$program" solve orders whole >said
 status=0
 "$program" solve orders cert >&- || status=$?
-[ "$status" = 5 ] && cmp whole cert && echo "closed standard output: status 5, the certificate is whole"
+[ "$status" = 5 ] && cmp whole cert || exit 1
+echo "closed standard output: status 5, the certificate is whole"
 rm -r "$here"
