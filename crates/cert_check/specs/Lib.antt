@@ -1,0 +1,4 @@
+pub mod Whys
+pub mod Verdicts
+pub mod Kept
+pub mod Readings
