@@ -3,6 +3,7 @@
 
 mod checker;
 mod draft;
+mod failure;
 mod line_why;
 mod phase;
 mod points;
@@ -11,6 +12,7 @@ mod verdict;
 mod whole;
 
 pub use checker::{Checker, check};
+pub use failure::Failure;
 pub use line_why::{LineWhy, OrderList};
 pub use points::Points;
 pub use verdict::{CertRead, CutRead, Verdict};
