@@ -1,4 +1,7 @@
 //! The checker of certificates: it says yes to exactly the good ones, and a yes implies the front.
+//!
+//! UNFINISHED: the contracts of `checker` and `whole` stand, and their bodies are stubs: they answer want of memory, and no
+//! value is a `Checker`, so nothing of them is shown by their proofs. `tree` is written and proved.
 #![tactic(auto)]
 
 mod checker;
