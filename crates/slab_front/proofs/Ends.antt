@@ -1,21 +1,33 @@
 -- How a run ends, from what its parts did.
-use Rattle.std.proofs.Common.{◌≡◌, ◌≢◌, inl, inr, ℕ, List, ◌++◌, Option, Some, None, Ok, refl, sym, ap, ◌∙◌, subst}
-use Rattle.slab_desk.specs.Desk.{Told, Files, Steps, WhereTold, ChangesLeft, Says, WithPrefix}
+use Rattle.std.proofs.Common.{◌≡◌, ◌≢◌, ◌⊎◌, inl, inr, ℕ, List, [], ◌++◌, Option, Some, None, Ok, refl, sym, ap, ◌∙◌, subst, append-nil, rules}
+use Rattle.slab_desk.specs.Desk.{Told, Files, Steps, WhereTold, ChangesLeft}
 use Rattle.slab_front.specs.Texts.{memory_text}
+use Rattle.slab_relax.specs.declared.tally.Tally.{Tally}
 use Rattle.slab_front.specs.Words.{Command, Parsed}
-use Rattle.slab_front.specs.Owed.{Owing, OwesOfWords, OwesOfCommand, SaysOnly, Ran}
+use Rattle.slab_front.specs.Outcomes.{Outcome, Owing, Gives, SaysOnly, BeginsToStore, BeginsToSay, Begins, StopsShort, Ran, saying, storing, with_file}
+use Rattle.slab_front.specs.Owed.{OwesOfWords, OwesOfCommand}
 use Rattle.slab_front.specs.Endings.{Finishes}
 
--- reading, and then saying
-says_only : (text : List ℕ) (x y z : Told) → ChangesLeft x y → Says text y z → SaysOnly text x z
-says_only text x y z p q =
-    let same_left : z.left ≡ y.left = ap (λ (t : Told). t.left) q in
-    q ∙ ap (λ (t : Told). record t { said = t.said ++ text }) p ∙ ap (λ (l : List ℕ). record x { left = l; said = x.said ++ text }) (sym same_left)
+-- ---- reading, and then giving
 
-says_front : (text : List ℕ) (x y z : Told) → ChangesLeft x y → WithPrefix Says text y z → WithPrefix SaysOnly text x z
-says_front text x y z p (front, back, whole, q) = (front, back, whole, says_only front x y z p q)
+given_after : (o : Outcome) (x y z : Told) → ChangesLeft x y → Gives o y z → Gives o x z
+given_after o x y z p q = q ∙ moved o.stored ∙ ap (λ (l : List ℕ). record x { files = (with_file o.stored x).files; target = (with_file o.stored x).target; left = l; said = x.said ++ o.said }) refl
+  where
+    moved : (stored : Option (List ℕ × List ℕ)) →
+        record y { files = (with_file stored y).files; target = (with_file stored y).target; left = z.left; said = y.said ++ o.said }
+        ≡ record x { files = (with_file stored x).files; target = (with_file stored x).target; left = z.left; said = x.said ++ o.said }
+    moved None = ap (λ (t : Told). record t { left = z.left; said = t.said ++ o.said }) p
+    moved (Some (name, bytes)) = ap (λ (t : Told). record t { files = (with_file (Some (name, bytes)) t).files; target = Some name; left = z.left; said = t.said ++ o.said }) p
 
--- a step that reads and a step that says, joined
+begun_after : (o : Outcome) (x y z : Told) → ChangesLeft x y → Begins o y z → Begins o x z
+begun_after o x y z p (inl stores) = inl (stored o.stored stores)
+  where
+    stored : (s : Option (List ℕ × List ℕ)) → BeginsToStore s y z → BeginsToStore s x z
+    stored None is = is
+    stored (Some (name, bytes)) (front, back, whole, q) = (front, back, whole, given_after (storing name front) x y z p q)
+begun_after o x y z p (inr (front, back, whole, q)) = inr (front, back, whole, given_after (record o { said = front }) x y z p q)
+
+-- a step that reads and a step that gives, joined
 joined : {Q R : Told → Told → Type 0} (W : Files → Type 0) (a b c : Option Told)
     → WhereTold a (λ t. W t.files) → ((x y z : Told) → W x.files → ChangesLeft x y → Q y z → R x z) → Steps a b ChangesLeft → Steps b c Q → Steps a c R
 joined W None None None w join p q = tt
@@ -25,18 +37,23 @@ joined W (Some x) None c w join p q = absurd p
 joined W (Some x) (Some y) None w join p q = q
 joined W (Some x) (Some y) (Some z) w join p q = join x y z w p q
 
--- a text that is owed
-pub ends_owed : (owes : Files → Owing) (status result : ℕ) (text : List ℕ) (a b c : Option Told)
-    → (status ≢ 5) × (status ≢ 6) → WhereTold a (λ t. owes t.files status text)
-    → Steps a b ChangesLeft → Finishes status text b c result → Steps a c (Ran owes result)
-ends_owed owes status result text a b c (not5, not6) is read end = elim end.status [
-  | inl e ↦ joined (λ files. owes files status text) a b c is (λ x y z w p q. record {
+-- ---- ends
+
+-- an outcome that is owed
+pub ends_owed : (owes : Files → Owing) (status result : ℕ) (o : Outcome) (a b c : Option Told)
+    → (status ≢ 5) × (status ≢ 6) → WhereTold a (λ t. owes t.files status o)
+    → Steps a b ChangesLeft → Finishes status o b c result → Steps a c (Ran owes result)
+ends_owed owes status result o a b c (not5, not6) is read end = elim end.status [
+  | inl e ↦ joined (λ files. owes files status o) a b c is (λ x y z w p q. record {
     fault = λ five. absurd (not5 (sym e ∙ five));
     memory = λ six. absurd (not6 (sym e ∙ six));
-    owed = λ _ _. (text, subst (λ (s : ℕ). owes x.files s text) (sym e) w, says_only text x y z p q);
-  }) read (end.said (λ five. not5 (sym e ∙ five)))
-  | inr e ↦ joined (λ files. owes files status text) a b c is (λ x y z w p q. record {
-    fault = λ _. inr (text, inl (status, w), says_front text x y z p q);
+    owed = λ _ _. (o, subst (λ (s : ℕ). owes x.files s o) (sym e) w, given_after o x y z p q);
+  }) read (end.given (λ five. not5 (sym e ∙ five)))
+  | inr e ↦ joined (λ files. owes files status o) a b c is (λ x y z w p q. record {
+    fault = λ _. elim q [
+      | inl none ↦ inl (given_after (saying []) x y z p none)
+      | inr begun ↦ inr (inl (status, o, w, begun_after o x y z p begun))
+    ];
     memory = λ is. cc;
     owed = λ not _. absurd (not e);
   }) read (end.short e)
@@ -52,20 +69,44 @@ always a = always_told (λ _. Unit {0}) a (λ _. tt)
 
 -- the text for want of memory
 pub ends_memory : (owes : Files → Owing) (result : ℕ) (a b c : Option Told)
-    → Steps a b ChangesLeft → Finishes 6 memory_text b c result → Steps a c (Ran owes result)
+    → Steps a b ChangesLeft → Finishes 6 (saying memory_text) b c result → Steps a c (Ran owes result)
 ends_memory owes result a b c read end = elim end.status [
   | inl e ↦ joined (λ _. Unit {0}) a b c (always a) (λ x y z w p q. record {
     fault = λ is. cc;
-    memory = λ _. says_only memory_text x y z p q;
+    memory = λ _. given_after (saying memory_text) x y z p q;
     owed = λ _ not. absurd (not e);
-  }) read (end.said (λ is. cc))
+  }) read (end.given (λ is. cc))
   | inr e ↦ joined (λ _. Unit {0}) a b c (always a) (λ x y z w p q. record {
-    fault = λ _. inr (memory_text, inr refl, says_front memory_text x y z p q);
+    fault = λ _. elim q [
+      | inl none ↦ inl (given_after (saying []) x y z p none)
+      | inr begun ↦ elim begun [
+        | inl stores ↦ absurd stores
+        | inr says ↦ inr (inr (says_after x y z p says))
+      ]
+    ];
     memory = λ is. cc;
     owed = λ not _. absurd (not e);
   }) read (end.short e)
 ]
+  where
+    says_after : (x y z : Told) → ChangesLeft x y → BeginsToSay (saying memory_text) y z → BeginsToSay (saying memory_text) x z
+    says_after x y z p (front, back, whole, q) = (front, back, whole, given_after (saying front) x y z p q)
+
+-- a fault while files were read
+pub ends_fault : (owes : Files → Owing) (a b : Option Told) → Steps a b ChangesLeft → Steps a b (Ran owes 5)
+ends_fault owes None None read = tt
+ends_fault owes None (Some y) read = read
+ends_fault owes (Some x) None read = read
+ends_fault owes (Some x) (Some y) read = record {
+  fault = λ _. inl (given_after (saying []) x y y read (nothing_given y));
+  memory = λ is. cc;
+  owed = λ not _. absurd (not refl);
+}
+  where
+    nothing_given : (y : Told) → SaysOnly [] y y
+    nothing_given y = search rules
 
 -- what a job owes is what its words owe
-pub ran_parsed : (parsed : Parsed Command) (command : Command) (a b : Option Told) (result : ℕ) → parsed ≡ Ok command → Steps a b (Ran (OwesOfCommand command) result) → Steps a b (Ran (OwesOfWords parsed) result)
-ran_parsed parsed command a b result e ran = subst (λ (p : Parsed Command). Steps a b (Ran (OwesOfWords p) result)) (sym e) ran
+pub ran_parsed : (parsed : Parsed Command) (command : Command) (was is : Tally) (a b : Option Told) (result : ℕ) → parsed ≡ Ok command
+    → Steps a b (Ran (OwesOfCommand command was is) result) → Steps a b (Ran (OwesOfWords parsed was is) result)
+ran_parsed parsed command was is a b result e ran = subst (λ (p : Parsed Command). Steps a b (Ran (OwesOfWords p was is) result)) (sym e) ran

@@ -1,4 +1,7 @@
-pub mod Reports
 pub mod Telling
 pub mod Owing
 pub mod Ends
+pub mod Stores
+pub mod Numbers
+pub mod OptionSteps
+pub mod Searching

@@ -1,64 +1,91 @@
 -- What is owed of files that have a value.
-use Rattle.std.proofs.Common.{◌≡◌, ◌≢◌, inl, ℕ, ◌≤◌, ◌<◌, Bool, true, false, cond, not, nat_eq, nat_lt, List, [], ◌∷◌, length, All, Option, Some, None, Result, Ok, Err, refl, sym, subst, MatchResult, arith, rules}
+use Rattle.std.proofs.Common.{◌≡◌, ◌≢◌, inl, inr, ℕ, ◌≤◌, Bool, true, false, cond, not, nat_eq, nat_lt, List, [], ◌∷◌, length, Option, Some, None, Result, Ok, Err, refl, sym, subst, MatchResult, arith, rules}
 use Rattle.std.specs.Bool.{MatchBool}
+use Rattle.std.specs.FinMap.{get}
 use Rattle.std.specs.Prelude.{MatchOption, find}
 use Rattle.slab_desk.specs.Desk.{Files}
-use Rattle.mill_model.specs.declared.sums.Sums.{Sums}
 use Rattle.mill_model.specs.declared.illegal.Illegal.{Illegal}
 use Rattle.mill_model.specs.declared.illegal.Illegal.TheVariants.{Places}
 use Rattle.mill_model.specs.Mill.{Mill, with_yard}
 use Rattle.mill_model.specs.Plans.{Plan}
 use Rattle.mill_model.specs.Judging.{first_broken, breaks, rules_of}
-use Rattle.mill_model.specs.Fronts.{IsFront, IsPoint, pairs_of}
 use Rattle.mill_read.specs.declared.fault.TextFault.{TextFault}
 use Rattle.mill_read.specs.OrderFile.{order_file}
 use Rattle.mill_read.specs.YardFile.{yard_file}
 use Rattle.slab_front.specs.declared.texts.Source.{Source}
 use Rattle.slab_front.specs.declared.texts.Source.TheVariants.{Orders, Yard as YardSource}
-use Rattle.slab_front.specs.Words.{Command, Parsed}
-use Rattle.slab_front.specs.Words.Command.{Solves, Judges}
-use Rattle.slab_front.specs.Texts.{long_text, fault_text, not_built_text}
-use Rattle.slab_front.specs.Report.{front_text}
-use Rattle.slab_front.specs.Owed.{Owing, Exactly, OwesOfFile, OwesOfYard, OwesOfMill, OwesFront, OwesSolved, MayEnd}
+use Rattle.slab_front.specs.Words.{MillWords, Command, Parsed}
+use Rattle.slab_front.specs.Words.Command.{Solves, Judges, Makes}
+use Rattle.slab_front.specs.Texts.{long_text, fault_text}
+use Rattle.slab_front.specs.Outcomes.{Outcome, Owing}
+use Rattle.slab_front.specs.Owed.{Exactly, Nothing, OwesOfFile, OwesOfYard, OwesOfMill, MayEnd, most_bytes, with_colours}
 use Rattle.slab_front.specs.Endings.{HasValue, HasYard, HasMill}
 
-is_short : (n : ℕ) → n ≤ 1048576 → nat_lt 1048576 n ≡ false
+is_short : (n : ℕ) → n ≤ most_bytes → nat_lt most_bytes n ≡ false
 is_short n h = search rules
 
 -- of a file with a value what follows is owed
-pub owes_value : {A : Type 0} (source : Source) (reading : List ℕ → Result A TextFault) (owes : A → Owing) (files : Files) (name : List ℕ) (value : A) (status : ℕ) (text : List ℕ)
-    → HasValue reading name value files → owes value status text → OwesOfFile source reading owes files name status text
-owes_value {A = A} source reading owes files name value status text (bytes, has, fits, is) owed =
-    let Fails : TextFault → Type 0 = λ fault. Exactly 2 (fault_text source fault) status text in
-    let Long : Type 0 = Exactly 2 (long_text source) status text in
-    let Of : Result A TextFault → Type 0 = λ r. MatchResult r (λ v. owes v status text) Fails in
-    subst (λ (o : Option (List ℕ)). MatchOption o ⊥ (λ b. MatchBool (nat_lt 1048576 (length b)) Long (Of (reading b)))) (sym has)
+pub owes_value : {A : Type 0} (source : Source) (reading : List ℕ → Result A TextFault) (owes : A → Owing) (files : Files) (name : List ℕ) (value : A) (status : ℕ) (o : Outcome)
+    → HasValue reading name value files → owes value status o → OwesOfFile source reading owes files name status o
+owes_value {A = A} source reading owes files name value status o (bytes, has, fits, is) owed =
+    let Fails : TextFault → Type 0 = λ fault. Exactly 2 (fault_text source fault) status o in
+    let Long : Type 0 = Exactly 2 (long_text source) status o in
+    let Of : Result A TextFault → Type 0 = λ r. MatchResult r (λ v. owes v status o) Fails in
+    subst (λ (x : Option (List ℕ)). MatchOption x ⊥ (λ b. MatchBool (nat_lt most_bytes (length b)) Long (Of (reading b)))) (sym has)
     (subst (λ (b : Bool). MatchBool b Long (Of (reading bytes))) (sym (is_short (length bytes) fits)) (subst Of (sym is) owed))
 
-owes_yard : (owes : Mill → Owing) (files : Files) (yard : Option (List ℕ)) (bare mill : Mill) (status : ℕ) (text : List ℕ)
-    → HasYard yard bare mill files → owes mill status text → OwesOfYard owes files yard bare status text
-owes_yard owes files None bare mill status text is owed = subst (λ (m : Mill). owes m status text) is owed
-owes_yard owes files (Some name) bare mill status text (yard, has, is) owed =
-    owes_value YardSource (yard_file (length bare.orders)) (λ y. owes (with_yard bare y)) files name yard status text has (subst (λ (m : Mill). owes m status text) is owed)
+owes_yard : (owes : Mill → Owing) (files : Files) (yard : Option (List ℕ)) (bare m : Mill) (status : ℕ) (o : Outcome)
+    → HasYard yard bare m files → owes m status o → OwesOfYard owes files yard bare status o
+owes_yard owes files None bare m status o is owed = subst (λ (x : Mill). owes x status o) is owed
+owes_yard owes files (Some name) bare m status o (yard, has, is) owed =
+    owes_value YardSource (yard_file (length bare.orders)) (λ y. owes (with_yard bare y)) files name yard status o has (subst (λ (x : Mill). owes x status o) is owed)
 
 -- of files that have a mill what follows is owed
-pub owes_mill : (owes : Mill → Owing) (files : Files) (orders : List ℕ) (yard : Option (List ℕ)) (mill : Mill) (status : ℕ) (text : List ℕ)
-    → HasMill orders yard mill files → owes mill status text → OwesOfMill owes files orders yard status text
-owes_mill owes files orders yard mill status text (bare, has, is) owed =
-    owes_value Orders order_file (OwesOfYard owes files yard) files orders bare status text has (owes_yard owes files yard bare mill status text is owed)
+pub owes_mill : (owes : Mill → Owing) (files : Files) (words : MillWords) (m : Mill) (status : ℕ) (o : Outcome)
+    → HasMill words m files → owes m status o → OwesOfMill owes files words status o
+owes_mill owes files words m status o has owed =
+    let after : Mill → Owing = λ x. owes (with_colours words.colours x) in
+    owes_value Orders order_file (OwesOfYard after files words.yard) files words.orders has.bare status o has.orders
+    (owes_yard after files words.yard has.bare has.with_its_yard status o has.yard (subst (λ (x : Mill). owes x status o) has.colours owed))
 
-is_few : (n : ℕ) → n ≤ 5 → nat_lt 5 n ≡ false
-is_few n h = search rules
+-- ---- a refusal of a file stands whatever follows
 
--- a front with a point is owed
-pub owes_points : (mill : Mill) (points : List (Sums × Plan)) (text : List ℕ)
-    → length mill.orders ≤ 5 → 0 < length points → IsFront mill (pairs_of points) → All (IsPoint mill) points → text ≡ front_text points
-    → OwesSolved mill 0 text
-owes_points mill [] text few some front plans is = absurd (omega arith)
-owes_points mill (point ∷ points) text few some front plans is =
-    let first : IsPoint mill point = plans 0 point (omega arith) in
-    subst (λ (b : Bool). MatchBool b (Exactly 9 not_built_text 0 text) (OwesFront mill 0 text)) (sym (is_few (length mill.orders) few))
-    (inl (refl, (point.1, first.legal), record { points = point ∷ points; front = front; plans = plans; report = is }))
+refused_reading : {A : Type 0} (r : Result A TextFault) (P Q : A → Type 0) (F : TextFault → Type 0) → ((value : A) → P value → Q value) → MatchResult r P F → MatchResult r Q F
+refused_reading (Ok value) P Q F more is = more value is
+refused_reading (Err fault) P Q F more is = is
+
+refused_bytes : (b : Bool) (L P Q : Type 0) → (P → Q) → MatchBool b L P → MatchBool b L Q
+refused_bytes true L P Q more is = is
+refused_bytes false L P Q more is = more is
+
+refused_there : (there : Option (List ℕ)) (P Q : List ℕ → Type 0) → ((bytes : List ℕ) → P bytes → Q bytes) → MatchOption there ⊥ P → MatchOption there ⊥ Q
+refused_there None P Q more is = is
+refused_there (Some bytes) P Q more is = more bytes is
+
+pub more_of_file : {A : Type 0} (source : Source) (reading : List ℕ → Result A TextFault) (owes others : A → Owing) (files : Files) (name : List ℕ) (status : ℕ) (o : Outcome)
+    → ((value : A) → owes value status o → others value status o)
+    → OwesOfFile source reading owes files name status o → OwesOfFile source reading others files name status o
+more_of_file source reading owes others files name status o more is =
+    let Fails : TextFault → Type 0 = λ fault. Exactly 2 (fault_text source fault) status o in
+    let Long : Type 0 = Exactly 2 (long_text source) status o in
+    refused_there (get files name)
+    (λ b. MatchBool (nat_lt most_bytes (length b)) Long (MatchResult (reading b) (λ v. owes v status o) Fails))
+    (λ b. MatchBool (nat_lt most_bytes (length b)) Long (MatchResult (reading b) (λ v. others v status o) Fails))
+    (λ b. refused_bytes (nat_lt most_bytes (length b)) Long _ _ (refused_reading (reading b) (λ v. owes v status o) (λ v. others v status o) Fails more)) is
+
+more_of_yard : (owes others : Mill → Owing) (files : Files) (yard : Option (List ℕ)) (m : Mill) (status : ℕ) (o : Outcome)
+    → ((x : Mill) → owes x status o → others x status o) → OwesOfYard owes files yard m status o → OwesOfYard others files yard m status o
+more_of_yard owes others files None m status o more is = more m is
+more_of_yard owes others files (Some name) m status o more is =
+    more_of_file YardSource (yard_file (length m.orders)) (λ yard. owes (with_yard m yard)) (λ yard. others (with_yard m yard)) files name status o (λ yard. more (with_yard m yard)) is
+
+pub more_of_mill : (owes others : Mill → Owing) (files : Files) (words : MillWords) (status : ℕ) (o : Outcome)
+    → ((m : Mill) → owes m status o → others m status o) → OwesOfMill owes files words status o → OwesOfMill others files words status o
+more_of_mill owes others files words status o more is =
+    let from : Mill → Owing = λ x. owes (with_colours words.colours x) in
+    let to : Mill → Owing = λ x. others (with_colours words.colours x) in
+    more_of_file Orders order_file (OwesOfYard from files words.yard) (OwesOfYard to files words.yard) files words.orders status o
+    (λ m. more_of_yard from to files words.yard m status o (λ x. more (with_colours words.colours x))) is
 
 -- what is found passes the test
 found_here : {A : Type 0} (p : A → Bool) (y x : A) (others : Option A) (b : Bool) → p y ≡ b → (others ≡ Some x → p x ≡ true) → cond b (Some y) others ≡ Some x → p x ≡ true
@@ -78,5 +105,6 @@ not_places mill plan rule count first is =
 -- no run owes the status of a fault or of want of memory
 pub never_stops : (parsed : Parsed Command) (status : ℕ) → MayEnd parsed status → (status ≢ 5) × (status ≢ 6)
 never_stops (Err number) status is = (λ e. omega (arith, is, e), λ e. omega (arith, is, e))
-never_stops (Ok (Solves orders)) status is = (λ e. omega (arith, is, e), λ e. omega (arith, is, e))
-never_stops (Ok (Judges orders plan yard)) status is = (λ e. omega (arith, is, e), λ e. omega (arith, is, e))
+never_stops (Ok (Solves words cert limit)) status is = (λ e. omega (arith, is, e), λ e. omega (arith, is, e))
+never_stops (Ok (Judges words plan)) status is = (λ e. omega (arith, is, e), λ e. omega (arith, is, e))
+never_stops (Ok (Makes orders seed)) status is = (λ e. omega (arith, is, e), λ e. omega (arith, is, e))

@@ -10,3 +10,7 @@ told_before P (Some x) (Some y) read is = subst P (ap (λ (t : Told). t.files) r
 pub told_both : (P Q R : Files → Type 0) (a : Option Told) → ((files : Files) → P files → Q files → R files) → WhereTold a (λ t. P t.files) → WhereTold a (λ t. Q t.files) → WhereTold a (λ t. R t.files)
 told_both P Q R None f p q = tt
 told_both P Q R (Some x) f p q = f x.files p q
+
+pub told_each : (P Q : Files → Type 0) (a : Option Told) → ((files : Files) → P files → Q files) → WhereTold a (λ t. P t.files) → WhereTold a (λ t. Q t.files)
+told_each P Q None f p = tt
+told_each P Q (Some x) f p = f x.files p

@@ -1,38 +1,48 @@
 -- What the parts of a run answer.
-use Rattle.std.specs.Prelude.{◌≡◌, ◌≢◌, ◌⊎◌, ◌↔◌, ℕ, ◌≤◌, Bool, true, false, IsTrue, List, length, ⊤, Option, Some, None, Result, Ok, Err, IfErr}
+use Rattle.std.specs.Prelude.{◌≡◌, ◌≢◌, ◌⊎◌, ◌↔◌, ℕ, ◌≤◌, Bool, true, false, IsTrue, List, [], length, ⊤, Option, Some, None, Result, Ok, Err, IfErr}
 use Rattle.std.specs.String.{string_bytes}
 use Rattle.std.specs.FinMap.{get}
 use Rattle.slab_counter.specs.Counter.{Rose}
-use Rattle.slab_desk.specs.Desk.{Told, Files, Steps, WhereTold, HasLongFile, ChangesLeft, Says, WithPrefix}
+use Rattle.slab_desk.specs.Desk.{Told, Files, Steps, WhereTold, HasLongFile, ChangesLeft}
 use Rattle.mill_model.specs.Mill.{Mill, Yard, with_yard}
 use Rattle.mill_read.specs.declared.fault.TextFault.{TextFault}
 use Rattle.mill_read.specs.declared.fault.TextError.{TextError}
-use Rattle.mill_read.specs.declared.fault.TextError.TheVariants.{Text}
+use Rattle.mill_read.specs.declared.fault.TextError.TheVariants.{Text as TextOf}
 use Rattle.mill_read.specs.OrderFile.{order_file}
 use Rattle.mill_read.specs.YardFile.{yard_file}
+use Rattle.slab_front.specs.declared.ending.Answer.{Answer}
+use Rattle.slab_front.specs.declared.ending.Answer.TheVariants.{Text, Stored, SummedUp}
 use Rattle.slab_front.specs.declared.ending.Ending.{Ending}
 use Rattle.slab_front.specs.declared.ending.Stop.{Stop}
 use Rattle.slab_front.specs.declared.ending.Stop.TheVariants.{Refused, Fault, Memory}
-use Rattle.slab_front.specs.Words.{Command, Parsed}
+use Rattle.slab_front.specs.Words.{MillWords, Command, Parsed}
 use Rattle.slab_front.specs.declared.texts.Source.{Source}
 use Rattle.slab_front.specs.Texts.{long_text, fault_text}
-use Rattle.slab_front.specs.Owed.{Owing, MayEnd}
+use Rattle.slab_front.specs.Searched.{status_of}
+use Rattle.slab_front.specs.Outcomes.{Outcome, Owing, Gives, SaysOnly, Begins, saying}
+use Rattle.slab_front.specs.Owed.{MayEnd, most_bytes, with_colours, stored_as, summed_up}
 
 -- the file is there, isn't too long, and has this value
 abbrev pub HasValue : {A : Type 0} → (List ℕ → Result A TextFault) → List ℕ → A → Files → Type 0
-HasValue reading name value files = (bytes : List ℕ) × (get files name ≡ Some bytes) × (length bytes ≤ 1048576) × (reading bytes ≡ Ok value)
+HasValue reading name value files = (bytes : List ℕ) × (get files name ≡ Some bytes) × (length bytes ≤ most_bytes) × (reading bytes ≡ Ok value)
 
 abbrev pub HasYard : Option (List ℕ) → Mill → Mill → Files → Type 0
 HasYard None bare mill files = mill ≡ bare
 HasYard (Some name) bare mill files = (yard : Yard) × HasValue (yard_file (length bare.orders)) name yard files × (mill ≡ with_yard bare yard)
 
--- the mill of the order file, with the yard of the yard file
-abbrev pub HasMill : List ℕ → Option (List ℕ) → Mill → Files → Type 0
-HasMill orders yard mill files = (bare : Mill) × HasValue order_file orders bare files × HasYard yard bare mill files
+-- the mill of the order file, with the yard of the yard file, and the colour limit of the words
+pub record HasMill (words : MillWords) (mill : Mill) (files : Files) : Type 0 where
+  pub bare : Mill
+  pub with_its_yard : Mill
+  pub orders : HasValue order_file words.orders bare files
+  pub yard : HasYard words.yard bare with_its_yard files
+  pub colours : mill ≡ with_colours words.colours with_its_yard
+
+-- ---- stops
 
 -- a refusal's text is owed with status 2, and a fault has its cause
 abbrev pub IsStop : (Files → Owing) → Option Told → ℕ → ℕ → Stop → Type 0
-IsStop owes told before now (Refused text) = WhereTold told (λ t. owes t.files 2 (string_bytes text))
+IsStop owes told before now (Refused text) = WhereTold told (λ t. owes t.files 2 (saying (string_bytes text)))
 IsStop owes told before now Fault = Rose before now
 IsStop owes told before now Memory = ⊤
 
@@ -43,14 +53,22 @@ is_fault (Err (Refused text)) = false
 is_fault (Err Fault) = true
 is_fault (Err Memory) = false
 
--- what a part of a run that reads files did: it stopped only for such a reason, changed nothing but what is left to read,
--- and the desk's last call failed exactly where the answer is a fault, which alone changes the count of faults
-pub record HasOnlyRead {A : Type 0} (IsReason : Option Told → ℕ → ℕ → Stop → Type 0) (old new : Option Told) (before now : ℕ) (failed : Bool) (result : Result A Stop) : Type 0 where
+-- what a part of a run that reads files did: it stopped only for such a reason, changed nothing but what is left to read, and
+-- the count of faults changed only where the answer is a fault
+pub record HasOnlyRead {A : Type 0} (IsReason : Option Told → ℕ → ℕ → Stop → Type 0) (old new : Option Told) (before now : ℕ) (result : Result A Stop) : Type 0 where
   pub stop : IfErr result (IsReason old before now)
   pub left : Steps old new ChangesLeft
   pub later : before ≤ now
   pub kept : is_fault result ≡ false → now ≡ before
-  pub stopped : failed ≡ is_fault result
+
+-- the desk's last call failed where the answer is a fault, and not where only a text is left to say
+abbrev pub IsStoppedBy : Result Answer Stop → Bool → Type 0
+IsStoppedBy (Ok (Text ending)) failed = failed ≡ false
+IsStoppedBy (Ok (Stored name m s)) failed = Unit {0}
+IsStoppedBy (Ok (SummedUp m s)) failed = Unit {0}
+IsStoppedBy (Err (Refused text)) failed = failed ≡ false
+IsStoppedBy (Err Fault) failed = failed ≡ true
+IsStoppedBy (Err Memory) failed = Unit {0}
 
 -- a run ends with 5 exactly where the desk's last call failed, and the count of faults explains it
 pub record EndsByFaults (before now : ℕ) (failed : Bool) (status : ℕ) : Type 0 where
@@ -59,30 +77,53 @@ pub record EndsByFaults (before now : ℕ) (failed : Bool) (status : ℕ) : Type
   pub kept : status ≢ 5 → now ≡ before
   pub stopped : (status ≡ 5) ↔ IsTrue failed
 
+-- ---- answers
+
+-- a text is owed with its status
 abbrev pub IsEnding : (Files → Owing) → Option Told → Ending → Type 0
-IsEnding owes told ending = WhereTold told (λ t. owes t.files ending.status (string_bytes ending.text))
+IsEnding owes told ending = WhereTold told (λ t. owes t.files ending.status (saying (string_bytes ending.text)))
+
+abbrev pub status_for : Answer → ℕ
+status_for (Text ending) = ending.status
+status_for (Stored name m s) = status_of s
+status_for (SummedUp m s) = status_of s
+
+abbrev pub outcome_for : Answer → Outcome
+outcome_for (Text ending) = saying (string_bytes ending.text)
+outcome_for (Stored name m s) = stored_as name.now m s
+outcome_for (SummedUp m s) = summed_up m s
+
+-- what an answer leads to is owed
+abbrev pub IsAnswer : (Files → Owing) → Option Told → Answer → Type 0
+IsAnswer owes told answer = WhereTold told (λ t. owes t.files (status_for answer) (outcome_for answer))
 
 -- the status that the answer leads to is one that these words may end with
-abbrev pub MayAnswer : Parsed Command → Result Ending Stop → Type 0
-MayAnswer parsed (Ok ending) = MayEnd parsed ending.status
+abbrev pub MayAnswer : Parsed Command → Result Answer Stop → Type 0
+MayAnswer parsed (Ok answer) = MayEnd parsed (status_for answer)
 MayAnswer parsed (Err (Refused text)) = MayEnd parsed 2
 MayAnswer parsed (Err Fault) = ⊤
 MayAnswer parsed (Err Memory) = ⊤
 
--- the text was said, and the answer is its status, or a prefix of it where the outside failed
-pub record Finishes (code : ℕ) (text : List ℕ) (old new : Option Told) (result : ℕ) : Type 0 where
+-- ---- ends
+
+-- The outcome was given, and the answer is its status, or the outcome was begun at most, where the outside failed.
+pub record Finishes (code : ℕ) (outcome : Outcome) (old new : Option Told) (result : ℕ) : Type 0 where
   pub status : (result ≡ code) ⊎ (result ≡ 5)
-  pub said : result ≢ 5 → Steps old new (Says text)
-  pub short : result ≡ 5 → Steps old new (WithPrefix Says text)
+  pub given : result ≢ 5 → Steps old new (Gives outcome)
+  pub short : result ≡ 5 → Steps old new (λ x y. SaysOnly [] x y ⊎ Begins outcome x y)
+  -- another part of a file isn't left to read
+  pub unread : Steps old new (λ x y. y.left ≡ x.left)
+
+-- ---- files
 
 -- the file is too long
 abbrev pub IsTooLong : Source → List ℕ → Option Told → ℕ → ℕ → Stop → Type 0
-IsTooLong source name told before now (Refused text) = (string_bytes text ≡ long_text source) × WhereTold told (HasLongFile name 1048576)
+IsTooLong source name told before now (Refused text) = (string_bytes text ≡ long_text source) × WhereTold told (HasLongFile name most_bytes)
 IsTooLong source name told before now Fault = Rose before now
 IsTooLong source name told before now Memory = ⊤
 
 -- what reading a text answered
 abbrev pub IsRefusal : Source → TextError → Stop → Type 0
-IsRefusal source error (Refused text) = (fault : TextFault) × (error ≡ Text fault) × (string_bytes text ≡ fault_text source fault)
+IsRefusal source error (Refused text) = (fault : TextFault) × (error ≡ TextOf fault) × (string_bytes text ≡ fault_text source fault)
 IsRefusal source error Fault = ⊥
 IsRefusal source error Memory = ⊤

@@ -1,15 +1,53 @@
 -- What the reader of the words answers.
-use Rattle.std.specs.Prelude.{◌≡◌, Result, Ok, Err}
+use Rattle.std.specs.Prelude.{◌≡◌, ℕ, ◌+◌, ◌≤◌, List, Option, Some, None, IfSome, Result, Ok, Err}
+use Rattle.std.specs.Borrow.{Bor}
 use Rattle.std.specs.Option.{option_map}
-use Rattle.slab_front.specs.Words.{Command, Parsed}
-use Rattle.slab_front.specs.Words.Command.{Solves, Judges}
+use Rattle.mill_model.specs.Mill.{IsBetween, most_orders, most_colour_limit}
+use Rattle.slab_front.specs.Words.{MillWords, Command, Parsed, Options, most_limit}
+use Rattle.slab_front.specs.Words.Command.{Solves, Judges, Makes}
 use Rattle.slab_front.specs.declared.words.Job.{Job}
-use Rattle.slab_front.specs.declared.words.Job.TheVariants.{Solve, Judge}
+use Rattle.slab_front.specs.declared.words.Job.TheVariants.{Solve, Judge, Make}
+use Rattle.slab_front.specs.declared.words.Options.{Options as ReadOptions}
 use Rattle.slab_front.specs.declared.words.UsageAt.{UsageAt}
 
+-- the bytes of a name that may be missing
+abbrev pub name_bytes : Option (Bor (List ℕ)) → Option (List ℕ)
+name_bytes name = option_map (λ name. name.now) name
+
+abbrev pub named_mill : Bor (List ℕ) → Option (Bor (List ℕ)) → ℕ → MillWords
+named_mill orders yard colours = record { orders = orders.now; yard = name_bytes yard; colours = colours }
+
 abbrev pub command_of : Job → Command
-command_of (Solve orders) = Solves orders.now
-command_of (Judge orders plan yard) = Judges orders.now plan.now (option_map (λ name. name.now) yard)
+command_of (Solve orders cert yard nodes colours) = Solves (named_mill orders yard colours) cert.now nodes
+command_of (Judge orders plan yard colours) = Judges (named_mill orders yard colours) plan.now
+command_of (Make orders seed) = Makes orders seed
+
+-- ---- the ranges of the numbers
+
+abbrev pub IsInRanges : Job → Type 0
+IsInRanges (Solve orders cert yard nodes colours) = IsBetween 1 most_limit nodes × IsBetween 1 most_colour_limit colours
+IsInRanges (Judge orders plan yard colours) = IsBetween 1 most_colour_limit colours
+IsInRanges (Make orders seed) = orders ≤ most_orders
+
+-- ---- options
+
+abbrev pub options_of : ReadOptions → Options
+options_of options = record { yard = name_bytes options.yard; nodes = options.nodes; colours = options.colours }
+
+pub record AreInRanges (options : ReadOptions) : Type 0 where
+  pub nodes : IfSome options.nodes (IsBetween 1 most_limit)
+  pub colours : IfSome options.colours (IsBetween 1 most_colour_limit)
+
+-- two words more for each option
+abbrev pub words_for : {A : Type 0} → Option A → ℕ
+words_for None = 0
+words_for (Some value) = 2
+
+-- the number of the word after the options
+abbrev pub word_after : Options → ℕ
+word_after options = 4 + words_for options.yard + words_for options.nodes + words_for options.colours
+
+-- ---- answers
 
 -- the value, seen by view, is the one that was parsed, or the word is the one that can't stand
 abbrev pub IsParsed : {X A : Type 0} → (X → A) → Result X UsageAt → Parsed A → Type 0

@@ -22,9 +22,6 @@ line word words = word ++ spaced words
 abbrev pub memory_text : List ℕ
 memory_text = line (codes "memory") []
 
-abbrev pub not_built_text : List ℕ
-not_built_text = line (codes "notbuilt") []
-
 -- the word that can't stand
 abbrev pub usage_text : ℕ → List ℕ
 usage_text number = line (codes "usage") (codes "word" ∷ decimal number ∷ [])

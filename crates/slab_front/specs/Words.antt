@@ -1,13 +1,42 @@
 -- The words of the command line, and the first that can't stand.
-use Rattle.std.specs.Prelude.{ℕ, Bool, false, ◌==◌, not, List, [], ◌∷◌, if◌then◌else◌, Option, Some, None, Result, Ok, Err, codes}
+use Rattle.std.specs.Prelude.{ℕ, ◌+◌, ◌-◌, ◌^◌, Bool, true, false, ◌==◌, ◌&&◌, not, nat_le, is_none, List, [], ◌∷◌, if◌then◌else◌, Option, Some, None, Result, Ok, Err, codes}
+use Rattle.std.specs.Option.{option_and_then, unwrap_or}
 use Rattle.std.specs.Str.{bytes_eq}
+use Rattle.std.specs.Str.Parse.{digits_value}
+use Rattle.std.specs.Fmt.{decimal}
+use Rattle.mill_model.specs.Mill.{most_orders, most_colour_limit}
 
--- what is asked of the program, with the names of the files
+-- ---- what is asked of the program
+
+-- where a mill comes from: an order file, a yard file where one is named, and a colour limit
+pub record MillWords : Type 0 where
+  pub orders : List ℕ
+  pub yard : Option (List ℕ)
+  pub colours : ℕ
+
 pub data Command : Type 0 where
-  -- an order file
-  Solves : List ℕ → Command
-  -- an order file, a plan file, and a yard file where one is named
-  Judges : List ℕ → List ℕ → Option (List ℕ) → Command
+  -- a mill, the file of its certificate, and the most nodes of one question's tree
+  Solves : MillWords → List ℕ → ℕ → Command
+  -- a mill and a plan file
+  Judges : MillWords → List ℕ → Command
+  -- so many orders, and the number that makes them
+  Makes : ℕ → ℕ → Command
+
+-- where the words name none
+abbrev pub default_nodes : ℕ
+default_nodes = 1000000
+
+abbrev pub default_colours : ℕ
+default_colours = 2
+
+-- the most that the words may name
+abbrev pub most_limit : ℕ
+most_limit = 1000000000000000
+
+abbrev pub most_seed : ℕ
+most_seed = 2 ^ 32 - 1
+
+-- ---- one word
 
 -- a value, or the number of the first word that can't stand, or of the one that is missing
 abbrev pub Parsed : Type 0 → Type 0
@@ -23,36 +52,94 @@ abbrev pub is_file_word : List ℕ → Bool
 is_file_word [] = false
 is_file_word (first ∷ bytes) = not (first == 45)
 
--- the file word that stands first, which has this number, and the words after it
-abbrev pub file_at : ℕ → List (List ℕ) → Parsed (List ℕ × List (List ℕ))
-file_at number [] = Err number
-file_at number (word ∷ words) = if is_file_word word then Ok (word, words) else Err number
+abbrev pub file_named : List ℕ → Option (List ℕ)
+file_named word = if is_file_word word then Some word else None
+
+-- the number within these bounds whose decimal text the word is, if it is one's
+abbrev pub number_named : ℕ → ℕ → List ℕ → Option ℕ
+number_named least most word =
+    if bytes_eq word (decimal (digits_value 10 word)) && (nat_le least (digits_value 10 word) && nat_le (digits_value 10 word) most)
+    then Some (digits_value 10 word) else None
+
+-- ---- words in their places
+
+-- what is read, or the number of its word
+abbrev pub or_at : {A : Type 0} → ℕ → Option A → Parsed A
+or_at number None = Err number
+or_at number (Some value) = Ok value
+
+-- the word that stands first has this number and is read so; and the words after it
+abbrev pub word_at : {A : Type 0} → (List ℕ → Option A) → ℕ → List (List ℕ) → Parsed (A × List (List ℕ))
+word_at reading number [] = Err number
+word_at reading number (word ∷ words) = or_at number (reading word) >>= λ value. Ok (value, words)
+
+-- the same of a word that may be missing
+abbrev pub given_at : {A : Type 0} → (List ℕ → Option A) → ℕ → Option (List ℕ) → Parsed A
+given_at reading number word = or_at number (option_and_then reading word)
 
 -- the value, where no word is left
 abbrev pub end_at : {A : Type 0} → ℕ → A → List (List ℕ) → Parsed A
 end_at number value [] = Ok value
 end_at number value (word ∷ words) = Err number
 
+-- ---- options, in any order, each at most once
+
+pub record Options : Type 0 where
+  pub yard : Option (List ℕ)
+  pub nodes : Option ℕ
+  pub colours : Option ℕ
+
+abbrev pub no_options : Options
+no_options = record { yard = None; nodes = None; colours = None }
+
+-- The options with one more: the word that names it, which has this number, and the word after that, where there is one.
+-- Only a search has a node limit.
+abbrev pub with_option : Bool → ℕ → Options → List ℕ → Option (List ℕ) → Parsed Options
+with_option searches number options name value =
+    if bytes_eq name (codes "--yard") && is_none options.yard
+    then (given_at file_named (number + 1) value >>= λ file. Ok (record options { yard = Some file }))
+    else (if bytes_eq name (codes "--nodes") && (searches && is_none options.nodes)
+    then (given_at (number_named 1 most_limit) (number + 1) value >>= λ nodes. Ok (record options { nodes = Some nodes }))
+    else (if bytes_eq name (codes "--colours") && is_none options.colours
+    then (given_at (number_named 1 most_colour_limit) (number + 1) value >>= λ colours. Ok (record options { colours = Some colours }))
+    else Err number))
+
+-- all words that are left, of which the first has this number, are options
+abbrev pub options_from : Bool → ℕ → Options → List (List ℕ) → Parsed Options
+options_from searches number options [] = Ok options
+options_from searches number options (name ∷ []) = with_option searches number options name None
+options_from searches number options (name ∷ value ∷ words) =
+    with_option searches number options name (Some value) >>= λ more. options_from searches (number + 2) more words
+
+-- ---- the commands
+
+abbrev pub mill_words : List ℕ → Options → MillWords
+mill_words orders options = record { orders = orders; yard = options.yard; colours = unwrap_or options.colours default_colours }
+
 abbrev pub solve_of : List (List ℕ) → Parsed Command
 solve_of words = do
-  orders ← file_at 2 words
-  end_at 3 (Solves orders.0) orders.1
-
--- nothing, or `--yard` and a file word
-abbrev pub yard_at : List (List ℕ) → Parsed (Option (List ℕ))
-yard_at [] = Ok None
-yard_at (option ∷ words) =
-    if bytes_eq option (codes "--yard") then (file_at 5 words >>= λ yard. end_at 6 (Some yard.0) yard.1) else Err 4
+  orders ← word_at file_named 2 words
+  cert ← word_at file_named 3 orders.1
+  options ← options_from true 4 no_options cert.1
+  Ok (Solves (mill_words orders.0 options) cert.0 (unwrap_or options.nodes default_nodes))
 
 abbrev pub judge_of : List (List ℕ) → Parsed Command
 judge_of words = do
-  orders ← file_at 2 words
-  plan ← file_at 3 orders.1
-  yard ← yard_at plan.1
-  Ok (Judges orders.0 plan.0 yard)
+  orders ← word_at file_named 2 words
+  plan ← word_at file_named 3 orders.1
+  options ← options_from false 4 no_options plan.1
+  Ok (Judges (mill_words orders.0 options) plan.0)
+
+abbrev pub make_of : List (List ℕ) → Parsed Command
+make_of words = do
+  orders ← word_at (number_named 0 most_orders) 2 words
+  seed ← word_at (number_named 0 most_seed) 3 orders.1
+  end_at 4 (Makes orders.0 seed.0) seed.1
 
 -- what the words after the program's name ask for
 abbrev pub job_of : List (List ℕ) → Parsed Command
 job_of [] = Err 1
 job_of (command ∷ words) =
-    if bytes_eq command (codes "solve") then solve_of words else (if bytes_eq command (codes "judge") then judge_of words else Err 1)
+    if bytes_eq command (codes "solve") then solve_of words
+    else (if bytes_eq command (codes "judge") then judge_of words
+    else (if bytes_eq command (codes "make") then make_of words else Err 1))

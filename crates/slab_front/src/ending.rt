@@ -1,16 +1,29 @@
 ghost use Rattle.std.specs.Prelude.{◌≡◌};
 ghost use Rattle.slab_front.specs.declared.ending.Stop.TheVariants.{Memory};
 
+use crate::search::Search;
+use mill_model::Mill;
 use std::alloc::AllocError;
 
-/// How a run ends: it says this text, and answers this status.
+/// A text to be said, and the status with which a run then ends.
 #[derive(Drop)]
 pub struct Ending {
     pub status: u8,
     pub text: String,
 }
 
-/// Why a run has no result: a file was refused, with this text; the outside failed; or memory ran out.
+/// What a run found, of which nothing has been stored or said yet.
+#[derive(Drop)]
+pub enum Answer<'a> {
+    /// A text.
+    Text(Ending),
+    /// A search, whose certificate is to be stored in this file, and whose report is to be said.
+    Stored(&'a str, Mill, Search),
+    /// A search, whose summary is to be said.
+    SummedUp(Mill, Search),
+}
+
+/// Why a run has no answer: a file was refused, with this text; the outside failed; or memory ran out.
 #[derive(Drop)]
 pub enum Stop {
     Refused(String),

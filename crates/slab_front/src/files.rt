@@ -1,13 +1,13 @@
 // The files of a run, read one after another.
-ghost use Rattle.std.specs.Prelude.{◌≡◌, ◌≤◌, [], length, IfOk};
-ghost use Rattle.std.specs.Option.{option_map};
+ghost use Rattle.std.specs.Prelude.{◌≡◌, ◌≤◌, length, IfOk};
 ghost use Rattle.slab_desk.specs.Desk.{WhereTold, HasFile, HasLongFile};
-ghost use Rattle.mill_model.specs.Mill.{AreBarsAmong};
+ghost use Rattle.mill_model.specs.Mill.{IsBetween, AreBarsAmong, most_colour_limit};
 ghost use Rattle.mill_read.specs.OrderFile.{order_file};
 ghost use Rattle.mill_read.specs.YardFile.{yard_file};
 ghost use Rattle.mill_read.specs.PlanFile.{plan_file};
-ghost use Rattle.slab_front.specs.Owed.{Nothing, OwesOfFile, OwesOfMill};
-ghost use Rattle.slab_front.specs.Endings.{HasOnlyRead, HasValue, HasMill, IsStop, IsTooLong, IsRefusal};
+ghost use Rattle.slab_front.specs.Jobs.{named_mill};
+ghost use Rattle.slab_front.specs.Owed.{Nothing, OwesOfFile, OwesOfMill, most_bytes};
+ghost use Rattle.slab_front.specs.Endings.{HasOnlyRead, is_fault, HasValue, HasMill, IsStop, IsTooLong, IsRefusal};
 
 use crate::ending::Stop;
 use crate::texts::{Source, fault_text, long_text};
@@ -16,37 +16,37 @@ use mill_read::{TextError, read_orders, read_plan, read_yard};
 use slab_desk::{Desk, ReadFail, read_all};
 use std::alloc::Global;
 
-const LONGEST: usize = 1048576;
+const MOST_BYTES: usize = 1048576;
 
-/// The mill of an order file, with the yard of a yard file where one is named.
+/// The mill of an order file, with the yard of a yard file where one is named, and a colour limit.
 pub fn read_mill<D: Desk>(
     alloc: Global,
     desk: &mut D,
     orders: &str,
     yard: Option<&str>,
+    colours: u16,
 ) -> Result<Mill, Stop>
-    ensures mill { IfOk result (λ mill. WhereTold (D.told desk.old) (λ t. HasMill orders.now (option_map (λ name. name.now) yard.entry) mill t.files)) }
-    ensures empty { yard.entry ≡ None → IfOk result (λ mill. mill.yard ≡ []) }
-    ensures reads { HasOnlyRead (IsStop (λ files. OwesOfMill Nothing files orders.now (option_map (λ name. name.now) yard.entry)))
-        (D.told desk.old) (D.told desk.new) (D.faults desk.old) (D.faults desk.new) (D.stopped desk.new) result }
+    requires { IsBetween 1 most_colour_limit colours }
+    ensures mill { IfOk result (λ mill. WhereTold (D.told desk.old) (λ t. HasMill (named_mill orders.entry yard.entry colours) mill t.files)) }
+    ensures reads { HasOnlyRead (IsStop (λ files. OwesOfMill Nothing files (named_mill orders.entry yard.entry colours)))
+        (D.told desk.old) (D.told desk.new) (D.faults desk.old) (D.faults desk.new) result }
+    ensures stopped { D.stopped desk.new ≡ is_fault result }
 {
     let mut mill = bare_mill(alloc, desk, orders)?;
-    match yard {
-        None => Ok(mill),
-        Some(name) => {
-            let yard = yard_in(alloc, desk, &mill, name)?;
-            mill.put_yard(yard);
-            Ok(mill)
-        }
+    if let Some(name) = yard {
+        let yard = yard_in(alloc, desk, &mill, name)?;
+        mill.put_yard(yard);
     }
+    mill.set_colour_limit(colours);
+    Ok(mill)
 }
 
 // The mill of an order file.
 fn bare_mill<D: Desk>(alloc: Global, desk: &mut D, name: &str) -> Result<Mill, Stop>
     ensures mill { IfOk result (λ mill. WhereTold (D.told desk.old) (λ t. HasValue order_file name.now mill t.files)) }
-    ensures empty { IfOk result (λ mill. mill.yard ≡ []) }
     ensures reads { HasOnlyRead (IsStop (λ files. OwesOfFile Source.Orders order_file Nothing files name.now))
-        (D.told desk.old) (D.told desk.new) (D.faults desk.old) (D.faults desk.new) (D.stopped desk.new) result }
+        (D.told desk.old) (D.told desk.new) (D.faults desk.old) (D.faults desk.new) result }
+    ensures stopped { D.stopped desk.new ≡ is_fault result }
 {
     let bytes = bytes_in(alloc, desk, Source::Orders, name)?;
     match read_orders(alloc, &bytes) {
@@ -60,7 +60,8 @@ fn yard_in<D: Desk>(alloc: Global, desk: &mut D, mill: &Mill, name: &str) -> Res
     ensures yard { IfOk result (λ yard. WhereTold (D.told desk.old) (λ t. HasValue (yard_file (length mill.now.orders)) name.now yard t.files)) }
     ensures bars { IfOk result (λ yard. AreBarsAmong (length mill.now.orders) yard.bars) }
     ensures reads { HasOnlyRead (IsStop (λ files. OwesOfFile Source.Yard (yard_file (length mill.now.orders)) Nothing files name.now))
-        (D.told desk.old) (D.told desk.new) (D.faults desk.old) (D.faults desk.new) (D.stopped desk.new) result }
+        (D.told desk.old) (D.told desk.new) (D.faults desk.old) (D.faults desk.new) result }
+    ensures stopped { D.stopped desk.new ≡ is_fault result }
 {
     let bytes = bytes_in(alloc, desk, Source::Yard, name)?;
     match read_yard(alloc, mill, &bytes) {
@@ -74,7 +75,8 @@ pub fn plan_in<D: Desk>(alloc: Global, desk: &mut D, mill: &Mill, name: &str) ->
     ensures plan { IfOk result (λ plan. WhereTold (D.told desk.old) (λ t. HasValue (plan_file (length mill.now.orders)) name.now plan t.files)) }
     ensures places { IfOk result (λ plan. length plan.place ≡ length mill.now.orders) }
     ensures reads { HasOnlyRead (IsStop (λ files. OwesOfFile Source.Plan (plan_file (length mill.now.orders)) Nothing files name.now))
-        (D.told desk.old) (D.told desk.new) (D.faults desk.old) (D.faults desk.new) (D.stopped desk.new) result }
+        (D.told desk.old) (D.told desk.new) (D.faults desk.old) (D.faults desk.new) result }
+    ensures stopped { D.stopped desk.new ≡ is_fault result }
 {
     let bytes = bytes_in(alloc, desk, Source::Plan, name)?;
     match read_plan(alloc, mill, &bytes) {
@@ -91,11 +93,12 @@ fn bytes_in<D: Desk>(
     name: &str,
 ) -> Result<Vec<u8>, Stop>
     ensures bytes { IfOk result (λ v. WhereTold (D.told desk.old) (HasFile name.now v.items)) }
-    ensures fits { IfOk result (λ v. length v.items ≤ 1048576) }
+    ensures fits { IfOk result (λ v. length v.items ≤ most_bytes) }
     ensures reads { HasOnlyRead (IsTooLong source name.now)
-        (D.told desk.old) (D.told desk.new) (D.faults desk.old) (D.faults desk.new) (D.stopped desk.new) result }
+        (D.told desk.old) (D.told desk.new) (D.faults desk.old) (D.faults desk.new) result }
+    ensures stopped { D.stopped desk.new ≡ is_fault result }
 {
-    match read_all(alloc, desk, name, LONGEST) {
+    match read_all(alloc, desk, name, MOST_BYTES) {
         Ok(bytes) => Ok(bytes),
         Err(ReadFail::Long) => Err(Stop::Refused(long_text(alloc, source)?)),
         Err(ReadFail::Fault) => Err(Stop::Fault),

@@ -1,9 +1,10 @@
 ghost use Rattle.std.specs.Prelude.{◌≡◌, ◌⊎◌, length, IfOk};
-ghost use Rattle.std.specs.Option.{option_map};
 ghost use Rattle.std.specs.String.{string_bytes};
-ghost use Rattle.slab_front.specs.Words.Command.{Judges};
-ghost use Rattle.slab_front.specs.Owed.{OwesVerdict, OwesOfCommand};
-ghost use Rattle.slab_front.specs.Endings.{HasOnlyRead, IsEnding, IsStop};
+ghost use Rattle.mill_model.specs.Mill.{IsBetween, most_colour_limit};
+ghost use Rattle.slab_front.specs.Jobs.{named_mill};
+ghost use Rattle.slab_front.specs.Outcomes.{saying};
+ghost use Rattle.slab_front.specs.Owed.{OwesVerdict, OwesOfPlan, OwesOfMill};
+ghost use Rattle.slab_front.specs.Endings.{HasOnlyRead, is_fault, IsEnding, IsStop};
 
 use crate::ending::{Ending, Stop};
 use crate::files::{plan_in, read_mill};
@@ -12,20 +13,24 @@ use mill_model::{Mill, Plan};
 use slab_desk::Desk;
 use std::alloc::{AllocError, Global};
 
-/// Whether the plan of a plan file is legal for the mill of an order file, with the yard of a yard file where one is named.
+/// Whether the plan of a plan file is legal for the mill of an order file, with the yard of a yard file where one is named, and
+/// a colour limit.
 pub fn judge<D: Desk>(
     alloc: Global,
     desk: &mut D,
     orders: &str,
     plan: &str,
     yard: Option<&str>,
+    colours: u16,
 ) -> Result<Ending, Stop>
-    ensures ending { IfOk result (IsEnding (OwesOfCommand (Judges orders.now plan.now (option_map (λ name. name.now) yard.entry))) (D.told desk.old)) }
+    requires { IsBetween 1 most_colour_limit colours }
+    ensures ending { IfOk result (IsEnding (λ files. OwesOfMill (OwesOfPlan files plan.now) files (named_mill orders.entry yard.entry colours)) (D.told desk.old)) }
     ensures status { IfOk result (λ ending. (ending.status ≡ 0) ⊎ (ending.status ≡ 8)) }
-    ensures reads { HasOnlyRead (IsStop (OwesOfCommand (Judges orders.now plan.now (option_map (λ name. name.now) yard.entry))))
-        (D.told desk.old) (D.told desk.new) (D.faults desk.old) (D.faults desk.new) (D.stopped desk.new) result }
+    ensures reads { HasOnlyRead (IsStop (λ files. OwesOfMill (OwesOfPlan files plan.now) files (named_mill orders.entry yard.entry colours)))
+        (D.told desk.old) (D.told desk.new) (D.faults desk.old) (D.faults desk.new) result }
+    ensures stopped { D.stopped desk.new ≡ is_fault result }
 {
-    let mill = read_mill(alloc, desk, orders, yard)?;
+    let mill = read_mill(alloc, desk, orders, yard, colours)?;
     let plan = plan_in(alloc, desk, &mill, plan)?;
     Ok(verdict(alloc, &mill, &plan)?)
 }
@@ -33,7 +38,7 @@ pub fn judge<D: Desk>(
 // The sums, where the plan is legal, or the first rule that it breaks.
 fn verdict(alloc: Global, mill: &Mill, plan: &Plan) -> Result<Ending, AllocError>
     requires { length plan.now.place ≡ length mill.now.orders }
-    ensures owed { IfOk result (λ ending. OwesVerdict mill.now plan.now ending.status (string_bytes ending.text)) }
+    ensures owed { IfOk result (λ ending. OwesVerdict mill.now plan.now ending.status (saying (string_bytes ending.text))) }
     ensures status { IfOk result (λ ending. (ending.status ≡ 0) ⊎ (ending.status ≡ 8)) }
 {
     match plan.judge(mill) {

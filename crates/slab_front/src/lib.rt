@@ -1,11 +1,16 @@
 //! What the program `slabfront` does: its words, the answers that they ask for, and the texts that it says.
+//!
+//! Read `words` first (what is asked), then `ending` (what a run finds before it stores or says anything), `files`, `judge`,
+//! `search` and `solve` (how it finds that), `giving` (how it stores and says it), and last `program`, the whole run. What a run
+//! owes stands in `specs/Owed` and `specs/Searched`.
 #![tactic(auto)]
 
 mod ending;
 mod files;
+mod giving;
 mod judge;
 mod program;
-mod report;
+mod search;
 mod solve;
 mod texts;
 mod words;

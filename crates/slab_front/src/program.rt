@@ -1,54 +1,63 @@
 // A whole run, from its words to its status.
-ghost use Rattle.std.specs.Prelude.{◌≡◌, ◌≢◌, ◌⊎◌, ◌↔◌, ◌<◌, ◌≤◌, false, IsTrue, length, map, IfOk};
+ghost use Rattle.std.specs.Prelude.{◌≡◌, ◌≢◌, ◌⊎◌, ◌↔◌, ◌<◌, ◌≤◌, IsTrue, map, IfOk};
 ghost use Rattle.std.specs.String.{string_bytes};
 ghost use Rattle.slab_counter.specs.Counter.{Rose, last_count};
 ghost use Rattle.slab_desk.specs.Desk.{Steps};
-ghost use Rattle.slab_front.specs.Jobs.{command_of};
+ghost use Rattle.slab_relax.specs.Tallies.{AreNoLess};
+ghost use Rattle.slab_front.specs.Jobs.{command_of, IsInRanges};
 ghost use Rattle.slab_front.specs.Words.{job_of};
-ghost use Rattle.slab_front.specs.Owed.{Owes, OwesOfWords, OwesOfCommand, MayEnd, Ran};
-ghost use Rattle.slab_front.specs.Endings.{HasOnlyRead, EndsByFaults, IsEnding, IsStop, MayAnswer, Finishes};
+ghost use Rattle.slab_front.specs.Texts.{usage_text as usage_line};
+ghost use Rattle.slab_front.specs.Outcomes.{Ran};
+ghost use Rattle.slab_front.specs.Owed.{Owes, OwesOfCommand, Exactly, MayEnd, LeavesUnread};
+ghost use Rattle.slab_front.specs.Endings.{HasOnlyRead, EndsByFaults, IsAnswer, IsStop, IsStoppedBy, MayAnswer};
 
-use crate::ending::{Ending, Stop};
+use crate::ending::{Answer, Stop};
+use crate::giving::{give, say};
 use crate::judge::judge;
-use crate::solve::solve;
+use crate::solve::{make, solve};
 use crate::texts::usage_text;
 use crate::words::{Job, UsageAt, read_words};
-use slab_desk::{Desk, say_all};
+use slab_desk::Desk;
+use slab_node::Tally;
 use std::alloc::Global;
 
 /// Does all that the program `slabfront` does, and answers the status with which it ends. The words are those after the
 /// program's name.
 ///
-/// A run reads the words, the order file, the yard file and the plan file in this order, and the first refusal ends it. It
-/// creates no file, and says exactly the text that is owed:
+/// A run reads the words, the order file, the yard file and the plan file in this order, searches, stores the certificate and
+/// says its text; the first refusal ends it. It creates no file but the certificate's, and that only after the search has ended
+/// and when it needs no more memory. It says exactly the text that is owed:
 ///
 /// | Status | Comes |
 /// |---|---|
-/// | 0 | the front of a mill that has a legal plan, or a judged plan that is legal |
+/// | 0 | the Pareto front was found, or a judged plan is legal |
 /// | 1 | the words can't stand |
 /// | 2 | a file isn't in its grammar, or is longer than 1,048,576 bytes |
+/// | 3 | the next split would give a question's tree more nodes than the limit |
 /// | 4 | a mill to be solved has no legal plan |
-/// | 5 | the outside failed in the last call: the desk's count of faults rose, or stands at its last value; what was said is a prefix of a text |
-/// | 6 | memory ran out, and only that was said |
+/// | 5 | the outside failed in the last call: the desk's count of faults rose, or stands at its last value; what was stored and said is a beginning of what was to be |
+/// | 6 | memory ran out; only that was said, and no file was created |
 /// | 8 | a judged plan is illegal |
-/// | 9 | a mill to be solved has more than five orders |
-pub fn run<D: Desk>(alloc: Global, words: &[String], desk: &mut D) -> u8
-    ensures ran { Steps (D.told desk.old) (D.told desk.new) (Ran (Owes (map string_bytes words.now)) result) }
+pub fn run<D: Desk>(alloc: Global, words: &[String], desk: &mut D, tally: &mut Tally) -> u8
+    ensures ran { Steps (D.told desk.old) (D.told desk.new)
+        (Ran (Owes (map string_bytes words.now) tally.old tally.new) result) }
 
     // Whether the desk tells or not.
     ensures status { MayEnd (job_of (map string_bytes words.now)) result ⊎ ((result ≡ 5) ⊎ (result ≡ 6)) }
+    ensures unread { Steps (D.told desk.old) (D.told desk.new) (LeavesUnread (job_of (map string_bytes words.now))) }
     ensures fault { result ≡ 5 → Rose (D.faults desk.old) (D.faults desk.new) }
     ensures later { D.faults desk.old ≤ D.faults desk.new }
     ensures stopped { (result ≡ 5) ↔ IsTrue (D.stopped desk.new) }
     ensures kept { result ≢ 5 → D.faults desk.new ≡ D.faults desk.old }
     ensures rose { D.faults desk.old < last_count → ((result ≡ 5) ↔ (D.faults desk.old < D.faults desk.new)) }
+    ensures counters { AreNoLess tally.old tally.new }
 {
     let job = match read_words(words) {
         Ok(job) => job,
         Err(usage) => return refuse(alloc, usage, desk),
     };
-    match answer(alloc, job, desk) {
-        Ok(ending) => say(desk, ending.status, ending.text.as_str()),
+    match answer(alloc, job, desk, tally) {
+        Ok(answer) => give(desk, answer),
         Err(Stop::Refused(text)) => say(desk, 2, text.as_str()),
         Err(Stop::Memory) => say(desk, 6, "memory\n"),
         Err(Stop::Fault) => 5,
@@ -57,8 +66,9 @@ pub fn run<D: Desk>(alloc: Global, words: &[String], desk: &mut D) -> u8
 
 // Says which word can't stand.
 fn refuse<D: Desk>(alloc: Global, usage: UsageAt, desk: &mut D) -> u8
-    ensures ran { Steps (D.told desk.old) (D.told desk.new) (Ran (OwesOfWords (Err usage.word)) result) }
+    ensures ran { Steps (D.told desk.old) (D.told desk.new) (Ran (λ files. Exactly 1 (usage_line usage.word)) result) }
     ensures status { (result ≡ 1) ⊎ ((result ≡ 5) ⊎ (result ≡ 6)) }
+    ensures unread { Steps (D.told desk.old) (D.told desk.new) (λ old new. new.left ≡ old.left) }
     ensures ends { EndsByFaults (D.faults desk.old) (D.faults desk.new) (D.stopped desk.new) result }
 {
     match usage_text(alloc, usage) {
@@ -68,28 +78,35 @@ fn refuse<D: Desk>(alloc: Global, usage: UsageAt, desk: &mut D) -> u8
 }
 
 // What a job asks for.
-fn answer<D: Desk>(alloc: Global, job: Job<'_>, desk: &mut D) -> Result<Ending, Stop>
-    ensures ending { IfOk result (IsEnding (OwesOfCommand (command_of job.entry)) (D.told desk.old)) }
+fn answer<'a, D: Desk>(
+    alloc: Global,
+    job: Job<'a>,
+    desk: &mut D,
+    tally: &mut Tally,
+) -> Result<Answer<'a>, Stop>
+    requires { IsInRanges job }
+    ensures answer { IfOk result (IsAnswer (OwesOfCommand (command_of job.entry) tally.old tally.new) (D.told desk.old)) }
     ensures status { MayAnswer (Ok (command_of job.entry)) result }
-    ensures reads { HasOnlyRead (IsStop (OwesOfCommand (command_of job.entry)))
-        (D.told desk.old) (D.told desk.new) (D.faults desk.old) (D.faults desk.new) (D.stopped desk.new) result }
+    ensures reads { HasOnlyRead (IsStop (OwesOfCommand (command_of job.entry) tally.old tally.new))
+        (D.told desk.old) (D.told desk.new) (D.faults desk.old) (D.faults desk.new) result }
+    ensures stopped { IsStoppedBy result (D.stopped desk.new) }
+    ensures unread { Steps (D.told desk.old) (D.told desk.new) (LeavesUnread (Ok (command_of job.entry))) }
+    ensures counters { AreNoLess tally.old tally.new }
 {
     match job {
-        Job::Solve { orders } => solve(alloc, desk, orders),
-        Job::Judge { orders, plan, yard } => judge(alloc, desk, orders, plan, yard),
-    }
-}
-
-// Says a text, and answers its status, or 5 where the outside fails. The last call of the desk didn't fail, or there is
-// something to say.
-fn say<D: Desk>(desk: &mut D, status: u8, text: &str) -> u8
-    requires status { status ≢ 5 }
-    requires calls { (D.stopped desk.old ≡ false) ⊎ (0 < length text.now) }
-    ensures finishes { Finishes status text.now (D.told desk.old) (D.told desk.new) result }
-    ensures ends { EndsByFaults (D.faults desk.old) (D.faults desk.new) (D.stopped desk.new) result }
-{
-    match say_all(desk, text.as_bytes()) {
-        Ok(()) => status,
-        Err(_) => 5,
+        Job::Solve {
+            orders,
+            cert,
+            yard,
+            nodes,
+            colours,
+        } => solve(alloc, desk, tally, orders, cert, yard, nodes, colours),
+        Job::Judge {
+            orders,
+            plan,
+            yard,
+            colours,
+        } => Ok(Answer::Text(judge(alloc, desk, orders, plan, yard, colours)?)),
+        Job::Make { orders, seed } => Ok(make(alloc, tally, orders, seed)?),
     }
 }

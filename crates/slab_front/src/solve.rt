@@ -1,51 +1,63 @@
-ghost use Rattle.std.specs.Prelude.{◌≡◌, ◌⊎◌, [], IfOk};
-ghost use Rattle.std.specs.String.{string_bytes};
-ghost use Rattle.slab_front.specs.Words.Command.{Solves};
-ghost use Rattle.slab_front.specs.Owed.{OwesSolved, OwesOfCommand};
-ghost use Rattle.slab_front.specs.Endings.{HasOnlyRead, IsEnding, IsStop};
+ghost use Rattle.std.specs.Prelude.{◌≡◌, ◌≤◌, Bool, [], Ok, IfOk};
+ghost use Rattle.mill_model.specs.Mill.{IsBetween, most_colour_limit, most_orders};
+ghost use Rattle.slab_relax.specs.Tallies.{AreNoLess};
+ghost use Rattle.slab_front.specs.Words.{most_limit};
+ghost use Rattle.slab_front.specs.Jobs.{named_mill};
+ghost use Rattle.slab_front.specs.Owed.{IsSearchStatus, OwesOfMill, OwesSearch, OwesMade, stored_as, Nothing};
+ghost use Rattle.slab_front.specs.Endings.{HasOnlyRead, IsStoppedBy, is_fault, IsAnswer, IsStop, status_for, outcome_for};
 
-use crate::ending::{Ending, Stop};
+use crate::ending::{Answer, Stop};
 use crate::files::read_mill;
-use crate::report::front_text;
-use exhaustive_front::exhaustive_front;
+use crate::search::search_front;
 use mill_model::Mill;
 use slab_desk::Desk;
+use slab_node::Tally;
+use slab_start::make_mill;
 use std::alloc::{AllocError, Global};
 
-const MOST_ORDERS: usize = 5;
+/// So many nodes may one question's tree have where nothing else is said.
+pub const DEFAULT_NODES: u64 = 1000000;
 
-/// The Pareto front of the mill of an order file.
-pub fn solve<D: Desk>(alloc: Global, desk: &mut D, orders: &str) -> Result<Ending, Stop>
-    ensures ending { IfOk result (IsEnding (OwesOfCommand (Solves orders.now)) (D.told desk.old)) }
-    ensures status { IfOk result (λ ending. (ending.status ≡ 0) ⊎ ((ending.status ≡ 4) ⊎ (ending.status ≡ 9))) }
-    ensures reads { HasOnlyRead (IsStop (OwesOfCommand (Solves orders.now)))
-        (D.told desk.old) (D.told desk.new) (D.faults desk.old) (D.faults desk.new) (D.stopped desk.new) result }
+/// The Pareto front of the mill of an order file, with the yard of a yard file where one is named, and a colour limit; to be
+/// stored in the file `cert`. One question's tree may have so many nodes.
+pub fn solve<'a, D: Desk>(
+    alloc: Global,
+    desk: &mut D,
+    tally: &mut Tally,
+    orders: &str,
+    cert: &'a str,
+    yard: Option<&str>,
+    limit: u64,
+    colours: u16,
+) -> Result<Answer<'a>, Stop>
+    requires limit { IsBetween 1 most_limit limit }
+    requires colours { IsBetween 1 most_colour_limit colours }
+    ensures answer { IfOk result (IsAnswer (λ files. OwesOfMill (OwesSearch (stored_as cert.now) [] limit tally.old tally.new) files (named_mill orders.entry yard.entry colours)) (D.told desk.old)) }
+    ensures status { IfOk result (λ answer. IsSearchStatus (status_for answer)) }
+    ensures reads { HasOnlyRead (IsStop (λ files. OwesOfMill Nothing files (named_mill orders.entry yard.entry colours)))
+        (D.told desk.old) (D.told desk.new) (D.faults desk.old) (D.faults desk.new) result }
+    ensures stopped { D.stopped desk.new ≡ is_fault result }
+    ensures counters { AreNoLess tally.old tally.new }
 {
-    let mill = read_mill(alloc, desk, orders, None)?;
-    Ok(solved(alloc, &mill)?)
+    let mill = read_mill(alloc, desk, orders, yard, colours)?;
+    let search = search_front(alloc, &mill, limit, tally)?;
+    Ok(Answer::Stored(cert, mill, search))
 }
 
-// The front of a mill of few orders.
-fn solved(alloc: Global, mill: &Mill) -> Result<Ending, AllocError>
-    requires { mill.now.yard ≡ [] }
-    ensures owed { IfOk result (λ ending. OwesSolved mill.now ending.status (string_bytes ending.text)) }
-    ensures status { IfOk result (λ ending. (ending.status ≡ 0) ⊎ ((ending.status ≡ 4) ⊎ (ending.status ≡ 9))) }
+/// The Pareto front of the mill of so many orders that a number makes.
+pub fn make(
+    alloc: Global,
+    tally: &mut Tally,
+    orders: u16,
+    seed: u32,
+) -> Result<Answer<'static>, AllocError>
+    requires { orders ≤ most_orders }
+    ensures owed { IfOk result (λ answer. OwesMade orders seed tally.old tally.new (status_for answer) (outcome_for answer)) }
+    ensures status { IfOk result (λ answer. status_for answer ≡ 0) }
+    ensures calls { IfOk result (λ answer. (failed : Bool) → IsStoppedBy (Ok answer) failed) }
+    ensures counters { AreNoLess tally.old tally.new }
 {
-    if mill.orders().len() > MOST_ORDERS {
-        return Ok(Ending {
-            status: 9,
-            text: String::from_str(alloc, "notbuilt\n")?,
-        });
-    }
-    let points = exhaustive_front(alloc, mill)?;
-    if points.is_empty() {
-        return Ok(Ending {
-            status: 4,
-            text: String::from_str(alloc, "front 0\nnoplan\n")?,
-        });
-    }
-    Ok(Ending {
-        status: 0,
-        text: front_text(alloc, &points)?,
-    })
+    let mill = make_mill(alloc, orders, seed)?;
+    let search = search_front(alloc, &mill, DEFAULT_NODES, tally)?;
+    Ok(Answer::SummedUp(mill, search))
 }

@@ -1,24 +1,43 @@
-ghost use Rattle.std.specs.Prelude.{◌≡◌, map, MatchResult};
-ghost use Rattle.std.specs.Option.{option_map};
+ghost use Rattle.std.specs.Prelude.{◌≡◌, ℕ, ◌+◌, ◌^◌, ◌<◌, ◌≤◌, map, decimal, IfOk, IfSome, IfNone};
+ghost use Rattle.std.specs.Option.{option_and_then};
 ghost use Rattle.std.specs.String.{string_bytes};
-ghost use Rattle.slab_front.specs.Words.{is_file_word, file_at, end_at, solve_of, yard_at, judge_of, job_of};
-ghost use Rattle.slab_front.specs.Jobs.{command_of, IsParsed};
+ghost use Rattle.mill_model.specs.Mill.{IsBetween};
+ghost use Rattle.slab_front.specs.Words.{is_file_word, file_named, number_named, word_at, end_at, no_options, with_option as with_one_more, options_from, solve_of, judge_of, make_of, job_of};
+ghost use Rattle.slab_front.specs.Jobs.{command_of, options_of, word_after, name_bytes, IsParsed, IsInRanges, AreInRanges};
 
+use itoa::Buffer;
+use mill_model::{MOST_COLOUR_LIMIT, MOST_ORDERS};
 use thiserror::Error;
+
+const DEFAULT_NODES: u64 = 1000000;
+
+const DEFAULT_COLOURS: u16 = 2;
+
+const MOST_NODES: u64 = 1000000000000000;
 
 /// What the words ask for, with the names of the files.
 #[derive(Clone, Copy, Debug, PartialEq, Eq)]
 pub enum Job<'a> {
-    /// The Pareto front of the mill of an order file.
+    /// The Pareto front of a mill: of an order file, with the yard of a yard file where one is named, and a colour limit of 1 to
+    /// 3. A certificate of it is stored in the file `cert`. One question's tree may have so many nodes, 1 to 10^15.
     Solve {
         orders: &'a str,
+        cert: &'a str,
+        yard: Option<&'a str>,
+        nodes: u64,
+        colours: u16,
     },
-    /// Whether the plan of a plan file is legal for the mill of an order file, with the yard of a yard file where one is
-    /// named.
+    /// Whether the plan of a plan file is legal for such a mill.
     Judge {
         orders: &'a str,
         plan: &'a str,
         yard: Option<&'a str>,
+        colours: u16,
+    },
+    /// The Pareto front of the mill of so many orders, at most 250, that a number makes.
+    Make {
+        orders: u16,
+        seed: u32,
     },
 }
 
@@ -29,59 +48,175 @@ pub struct UsageAt {
     pub word: u32,
 }
 
-/// What the words after the program's name ask for: `solve ORDERS`, or `judge ORDERS PLAN` and maybe `--yard FILE`. The name
-/// of a file isn't empty and doesn't begin with `-`. It takes no memory.
+// The options that were read so far.
+#[derive(Clone, Copy)]
+struct Options<'a> {
+    yard: Option<&'a str>,
+    nodes: Option<u64>,
+    colours: Option<u16>,
+}
+
+/// What the words after the program's name ask for: `solve ORDERS CERT`, `judge ORDERS PLAN` or `make N SEED`. After the file
+/// words stand the options `--yard FILE` and `--colours P`, for `solve` also `--nodes N`, in any order, each at most once. The
+/// name of a file isn't empty and doesn't begin with `-`; a number has no leading zero. It takes no memory.
 pub fn read_words(words: &[String]) -> Result<Job<'_>, UsageAt>
-    ensures { IsParsed command_of result (job_of (map string_bytes words.now)) }
+    ensures job { IsParsed command_of result (job_of (map string_bytes words.now)) }
+    ensures ranges { IfOk result IsInRanges }
 {
     match words {
         [command, rest @ ..] if command.as_str() == "solve" => solve(rest),
         [command, rest @ ..] if command.as_str() == "judge" => judge(rest),
+        [command, rest @ ..] if command.as_str() == "make" => make(rest),
         _ => Err(UsageAt { word: 1 }),
     }
 }
 
 // The words after `solve`.
 fn solve(words: &[String]) -> Result<Job<'_>, UsageAt>
-    ensures { IsParsed command_of result (solve_of (map string_bytes words.now)) }
+    ensures job { IsParsed command_of result (solve_of (map string_bytes words.now)) }
+    ensures ranges { IfOk result IsInRanges }
 {
     let (orders, rest) = file_word(words, 2)?;
-    no_more(rest, 3)?;
-    Ok(Job::Solve { orders })
+    let (cert, rest) = file_word(rest, 3)?;
+    let options = read_options(rest, true)?;
+    Ok(Job::Solve {
+        orders,
+        cert,
+        yard: options.yard,
+        nodes: options.nodes.unwrap_or(DEFAULT_NODES),
+        colours: options.colours.unwrap_or(DEFAULT_COLOURS),
+    })
 }
 
 // The words after `judge`.
 fn judge(words: &[String]) -> Result<Job<'_>, UsageAt>
-    ensures { IsParsed command_of result (judge_of (map string_bytes words.now)) }
+    ensures job { IsParsed command_of result (judge_of (map string_bytes words.now)) }
+    ensures ranges { IfOk result IsInRanges }
 {
     let (orders, rest) = file_word(words, 2)?;
     let (plan, rest) = file_word(rest, 3)?;
-    let yard = yard_option(rest)?;
-    Ok(Job::Judge { orders, plan, yard })
+    let options = read_options(rest, false)?;
+    Ok(Job::Judge {
+        orders,
+        plan,
+        yard: options.yard,
+        colours: options.colours.unwrap_or(DEFAULT_COLOURS),
+    })
 }
 
-// The words after the plan file.
-fn yard_option(words: &[String]) -> Result<Option<&str>, UsageAt>
-    ensures { IsParsed (λ yard. option_map (λ name. name.now) yard) result (yard_at (map string_bytes words.now)) }
+// The words after `make`.
+fn make(words: &[String]) -> Result<Job<'_>, UsageAt>
+    ensures job { IsParsed command_of result (make_of (map string_bytes words.now)) }
+    ensures ranges { IfOk result IsInRanges }
 {
-    match words {
-        [] => Ok(None),
-        [option, rest @ ..] if option.as_str() == "--yard" => {
-            let (yard, rest) = file_word(rest, 5)?;
-            no_more(rest, 6)?;
-            Ok(Some(yard))
+    let (orders, rest) = number_word(words, 2, 0, u64::from(MOST_ORDERS))?;
+    let (seed, rest) = number_word(rest, 3, 0, u64::from(u32::MAX))?;
+    no_more(rest, 4)?;
+    Ok(Job::Make {
+        orders: orders as u16,
+        seed: seed as u32,
+    })
+}
+
+// The words that are left are options. The first has the number 4.
+fn read_options(words: &[String], searches: bool) -> Result<Options<'_>, UsageAt>
+    ensures options { IsParsed options_of result (options_from searches 4 no_options (map string_bytes words.now)) }
+    ensures ranges { IfOk result AreInRanges }
+{
+    let mut options = Options {
+        yard: None,
+        nodes: None,
+        colours: None,
+    };
+    let mut rest = words;
+    'options: loop {
+        match rest {
+            [] => return Ok(options),
+            [name] => return options.with_option(name.as_str(), None, searches),
+            [name, value, after @ ..] => {
+                options = options.with_option(name.as_str(), Some(value.as_str()), searches)?;
+                rest = after;
+            }
         }
-        _ => Err(UsageAt { word: 4 }),
+    }
+}
+
+impl<'a> Options<'a> {
+    // The number of the word after these options.
+    fn next_word(&self) -> u32
+        ensures { result ≡ word_after (options_of self.now) }
+    {
+        let yard = if self.yard.is_some() { 2 } else { 0 };
+        let nodes = if self.nodes.is_some() { 2 } else { 0 };
+        let colours = if self.colours.is_some() { 2 } else { 0 };
+        4 + yard + nodes + colours
+    }
+
+    // These options with one more: its name, and the word after that, where there is one.
+    fn with_option(
+        self,
+        name: &str,
+        value: Option<&'a str>,
+        searches: bool,
+    ) -> Result<Options<'a>, UsageAt>
+        requires ranges { AreInRanges self }
+        ensures options { IsParsed options_of result (with_one_more searches (word_after (options_of self.entry)) (options_of self.entry) name.now (name_bytes value.entry)) }
+        ensures ranges { IfOk result AreInRanges }
+        ensures next { IfOk result (λ options. word_after (options_of options) ≡ word_after (options_of self.entry) + 2) }
+    {
+        let number = self.next_word();
+        let wrong = UsageAt { word: number + 1 };
+        if name == "--yard" && self.yard.is_none() {
+            let yard = given_file(value).ok_or(wrong)?;
+            return Ok(Options {
+                yard: Some(yard),
+                ..self
+            });
+        }
+        if name == "--nodes" && searches && self.nodes.is_none() {
+            let nodes = given_number(value, 1, MOST_NODES).ok_or(wrong)?;
+            return Ok(Options {
+                nodes: Some(nodes),
+                ..self
+            });
+        }
+        if name == "--colours" && self.colours.is_none() {
+            let colours = given_number(value, 1, u64::from(MOST_COLOUR_LIMIT)).ok_or(wrong)?;
+            return Ok(Options {
+                colours: Some(colours as u16),
+                ..self
+            });
+        }
+        Err(UsageAt { word: number })
     }
 }
 
 // The first of the words, which has this number and is a file word, and the words after it.
 fn file_word(words: &[String], number: u32) -> Result<(&str, &[String]), UsageAt>
-    ensures { IsParsed (λ r. (r.0.now, map string_bytes r.1.now)) result (file_at number (map string_bytes words.now)) }
+    ensures { IsParsed (λ r. (r.0.now, map string_bytes r.1.now)) result (word_at file_named number (map string_bytes words.now)) }
 {
     match words {
         [word, rest @ ..] if is_file_name(word.as_str()) => Ok((word.as_str(), rest)),
         _ => Err(UsageAt { word: number }),
+    }
+}
+
+// The first of the words, which has this number and is a number within these bounds, and the words after it.
+fn number_word(
+    words: &[String],
+    number: u32,
+    least: u64,
+    most: u64,
+) -> Result<(u64, &[String]), UsageAt>
+    ensures parsed { IsParsed (λ r. (r.0, map string_bytes r.1.now)) result (word_at (number_named least most) number (map string_bytes words.now)) }
+    ensures within { IfOk result (λ r. IsBetween least most r.0) }
+{
+    let [word, rest @ ..] = words else {
+        return Err(UsageAt { word: number });
+    };
+    match number_in(word.as_str(), least, most) {
+        Some(value) => Ok((value, rest)),
+        None => Err(UsageAt { word: number }),
     }
 }
 
@@ -101,5 +236,49 @@ fn is_file_name(word: &str) -> bool
     match word.as_bytes() {
         [] => false,
         [first, ..] => *first != b'-',
+    }
+}
+
+// The number within these bounds whose decimal text the word is.
+fn number_in(word: &str, least: u64, most: u64) -> Option<u64>
+    ensures named { result ≡ number_named least most word.now }
+    ensures within { IfSome result (IsBetween least most) }
+{
+    match spelled(word) {
+        Some(number) if least <= number && number <= most => Some(number),
+        _ => None,
+    }
+}
+
+// The number whose decimal text the word is.
+fn spelled(word: &str) -> Option<u64>
+    ensures some { IfSome result (λ n. word.now ≡ decimal n) }
+    ensures fits { IfSome result (λ n. n < 2 ^ 64) }
+    ensures none { IfNone result ((n : ℕ) → n < 2 ^ 64 → word.now ≡ decimal n → ⊥) }
+{
+    match word.parse::<u64>() {
+        Ok(number) if Buffer::new().format(number) == word => Some(number),
+        _ => None,
+    }
+}
+
+// The file that is named, where a word is given and names one.
+fn given_file(word: Option<&str>) -> Option<&str>
+    ensures { name_bytes result ≡ option_and_then file_named (name_bytes word.entry) }
+{
+    match word {
+        Some(word) if is_file_name(word) => Some(word),
+        _ => None,
+    }
+}
+
+// The number within these bounds, where a word is given and is one's decimal text.
+fn given_number(word: Option<&str>, least: u64, most: u64) -> Option<u64>
+    ensures named { result ≡ option_and_then (number_named least most) (name_bytes word.entry) }
+    ensures within { IfSome result (IsBetween least most) }
+{
+    match word {
+        Some(word) => number_in(word, least, most),
+        None => None,
     }
 }

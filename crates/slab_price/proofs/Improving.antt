@@ -14,7 +14,6 @@ use Rattle.slab_price.specs.Bests.{IsBest, IsImproved, as_found}
 use Rattle.slab_price.specs.Excess.{IsFound, IsGreatest, IsWorst}
 use Rattle.slab_price.specs.Found.{Found}
 
-
 -- nothing changes
 pub improved_same : (q : Problem) (best : Best) (IsSo : Column → Type 0) → ExceedAtMost q best.excess IsSo → IsImproved q best best IsSo
 improved_same q best IsSo most = record { kept = λ b. b; grows = omega (arith, ints); most = most }

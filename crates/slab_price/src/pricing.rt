@@ -44,6 +44,12 @@ pub fn worst(
         task,
         frame: &frame,
     };
-    search.search_sets(frame.ranking.len(), mill.colour_limit(), 0, &mut space, &mut picks);
+    search.search_sets(
+        frame.ranking.len(),
+        mill.colour_limit(),
+        0,
+        &mut space,
+        &mut picks,
+    );
     Ok(picks.best.found())
 }

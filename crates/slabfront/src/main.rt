@@ -1,19 +1,24 @@
 // The program `slabfront`: it hands its words and the real files to `run`, and ends with its status.
 #![tactic(auto)]
 
+mod ended;
+mod streams;
+
+use ended::ended;
 use slab_desk::RealDesk;
-use slab_front::run;
+use slab_node::Tally;
 use std::env::{self, Env};
 use std::io::ErrorKind;
 use std::process::ExitCode;
+use streams::held_streams;
 
 fn main(rt: HostRuntime) -> ExitCode {
     let alloc = rt.alloc();
+    let Some(_streams) = held_streams(&rt) else {
+        return ExitCode::from(5);
+    };
     match words(&rt) {
-        Ok(words) => {
-            let mut desk = RealDesk::new(rt);
-            ExitCode::from(run(alloc, &words, &mut desk))
-        }
+        Ok(words) => ended(alloc, &words, &mut RealDesk::new(rt), &mut Tally::new()),
         Err(status) => ExitCode::from(status),
     }
 }

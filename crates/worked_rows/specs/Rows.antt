@@ -2,6 +2,8 @@
 use Rattle.std.specs.Prelude.{◌≡◌, ℕ, List, Some, codes}
 use Rattle.std.specs.FinMap.{get}
 use Rattle.slab_desk.specs.Desk.{Files}
+use Rattle.slab_relax.specs.declared.tally.Tally.{Tally}
+use Rattle.slab_front.specs.Outcomes.{Outcome, saying}
 use Rattle.slab_front.specs.Owed.{Owes}
 use Rattle.worked_rows.specs.Words.{words_of}
 use Rattle.worked_rows.specs.declared.rows.unread.UnreadRow.{UnreadRow}
@@ -9,10 +11,10 @@ use Rattle.worked_rows.specs.declared.rows.refused.RefusedRow.{RefusedRow}
 use Rattle.worked_rows.specs.declared.rows.judged.JudgedRow.{JudgedRow}
 use Rattle.worked_rows.specs.declared.rows.yards.YardRow.{YardRow}
 
--- where the files are so, these words owe this status with this text, and no other
+-- where the files are so, these words owe this status with this text, and nothing else
 pub record IsAnswered (words : List ℕ) (are : Files → Type 0) (status : ℕ) (said : List ℕ) : Type 0 where
-  pub owed : (files : Files) → are files → Owes (words_of words) files status said
-  pub only : (files : Files) (other : ℕ) (text : List ℕ) → are files → Owes (words_of words) files other text → (other ≡ status) × (text ≡ said)
+  pub owed : (files : Files) (was is : Tally) → are files → Owes (words_of words) was is files status (saying said)
+  pub only : (files : Files) (was is : Tally) (other : ℕ) (o : Outcome) → are files → Owes (words_of words) was is files other o → (other ≡ status) × (o ≡ saying said)
 
 abbrev pub HasOrders : List ℕ → Files → Type 0
 HasOrders orders files = get files (codes "orders") ≡ Some orders
@@ -29,7 +31,7 @@ abbrev pub IsUnreadRow : UnreadRow → Type 0
 IsUnreadRow row = IsAnswered row.0.now (λ files. Unit {0}) 1 row.1.now
 
 abbrev pub IsRefusedRow : RefusedRow → Type 0
-IsRefusedRow row = IsAnswered (codes "solve orders") (HasOrders row.0.now) 2 row.1.now
+IsRefusedRow row = IsAnswered (codes "solve orders cert") (HasOrders row.0.now) 2 row.1.now
 
 abbrev pub IsJudgedRow : JudgedRow → Type 0
 IsJudgedRow row = IsAnswered (codes "judge orders plan") (HasPlan row.0.now row.1.now) row.2 row.3.now

@@ -13,7 +13,16 @@ pub struct Files<'a> {
     pub yard: &'a str,
 }
 
-impl Files<'_> {
+impl<'a> Files<'a> {
+    /// These files.
+    pub fn new(orders: &'a str, plan: &'a str, yard: &'a str) -> Files<'a> {
+        Files {
+            orders: orders.as_bytes(),
+            plan,
+            yard,
+        }
+    }
+
     fn desk(
         &self,
         rt: &impl Abort,
@@ -57,18 +66,47 @@ impl Files<'_> {
         Ok(())
     }
 
-    /// The run of these words answers 0, and what it says begins with this.
+    /// The order file is solved with these options, with this status and text.
+    pub fn solve(
+        &self,
+        rt: &impl Abort,
+        alloc: Global,
+        options: &str,
+        status: u8,
+        said: &str,
+    ) -> Result<(), Fail> {
+        let words = format!(in alloc; "solve orders cert{options}")?;
+        self.answer(rt, alloc, words.as_str(), status, said)
+    }
+
+    /// The order file is solved with these options, and what is said begins so.
     pub fn begin(
         &self,
         rt: &impl Abort,
         alloc: Global,
-        words: &str,
+        options: &str,
         said: &str,
     ) -> Result<(), Fail> {
+        let words = format!(in alloc; "solve orders cert{options}")?;
         let mut desk = self.desk(rt, alloc, Vec::new(alloc))?;
-        let answered = run_words(alloc, words, &mut desk)?;
-        assert!(rt; desk.said().starts_with(said.as_bytes()), "{words}");
-        assert_eq!(rt; answered, 0, "{words}");
+        let answered = run_words(alloc, words.as_str(), &mut desk)?;
+        assert!(rt; desk.said().starts_with(said.as_bytes()), "{said}");
+        assert_eq!(rt; answered, 0, "{said}");
+        Ok(())
+    }
+
+    /// The order file is solved with these options, and this certificate is stored.
+    pub fn store(
+        &self,
+        rt: &impl Abort,
+        alloc: Global,
+        options: &str,
+        stored: &str,
+    ) -> Result<(), Fail> {
+        let words = format!(in alloc; "solve orders cert{options}")?;
+        let mut desk = self.desk(rt, alloc, Vec::new(alloc))?;
+        let _answered = run_words(alloc, words.as_str(), &mut desk)?;
+        assert!(rt; desk.file("cert") == Some(stored.as_bytes()), "{stored}");
         Ok(())
     }
 
@@ -86,6 +124,7 @@ impl Files<'_> {
         assert_eq!(rt; desk.said(), said.as_bytes(), "{words}");
         assert_eq!(rt; answered, 5, "{words}");
         assert_eq!(rt; desk.faults(), 1, "{words}");
+        assert!(rt; desk.stopped(), "{words}");
         assert!(rt; desk.file("none").is_none());
         Ok(())
     }

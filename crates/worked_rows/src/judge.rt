@@ -1,8 +1,6 @@
 use crate::desk::Files;
 use crate::rows::{judged_rows, yard_rows};
 use crate::runs::{run_judged, run_yard};
-use mill_model::{Illegal, Kind, Plan, Sums};
-use mill_read::read_orders;
 use std::test::Fail;
 
 #[test]
@@ -46,14 +44,18 @@ fn a_plan_is_judged_with_a_yard(rt: HostRuntime) -> Result<(), Fail> {
 }
 
 #[test]
-fn a_mill_allows_so_many_colours_on_a_slab(rt: HostRuntime) -> Result<(), Fail> {
-    let alloc = rt.alloc();
-    let mut mill = read_orders(alloc, b"1 9 3 3 3 1 3 2 3 3")?;
-    let plan = Plan::new(vec![in alloc; Kind::New(9)]?, vec![in alloc; 0, 0, 0]?);
-    assert_eq!(rt; plan.judge(&mill), Err(Illegal::Colours(0)));
-    mill.set_colour_limit(3);
-    assert_eq!(rt; plan.judge(&mill), Ok(Sums { loss: 0, count: 1 }));
-    mill.set_colour_limit(1);
-    assert_eq!(rt; plan.judge(&mill), Err(Illegal::Colours(0)));
+fn a_slab_takes_so_many_colours(rt: HostRuntime) -> Result<(), Fail> {
+    let files = Files::new("1 9 3 3 3 1 3 2 3 3", "1 new 9 1 1 1", "");
+    for (words, status, said) in [
+        ("judge orders plan", 8, "illegal slab 1 colours\n"),
+        ("judge orders plan --colours 3", 0, "legal 0 1\n"),
+        (
+            "judge orders plan --colours 1",
+            8,
+            "illegal slab 1 colours\n",
+        ),
+    ] {
+        files.answer(&rt, rt.alloc(), words, status, said)?;
+    }
     Ok(())
 }

@@ -2,8 +2,7 @@
 
 ghost use Rattle.std.specs.Prelude.{◌≡◌, map, IfOk};
 ghost use Rattle.std.specs.String.{string_bytes};
-ghost use Rattle.slab_front.specs.Owed.{Owes, Ran};
-ghost use Rattle.worked_rows.specs.Ends.{EndsSo, EndsAsOwed};
+ghost use Rattle.worked_rows.specs.Ends.{EndsSo, EndsAsOwed, RanAsOwed};
 ghost use Rattle.worked_rows.specs.Rows.{IsUnreadRow, IsRefusedRow, IsJudgedRow, IsYardRow};
 ghost use Rattle.worked_rows.specs.Words.{words_of, parts_of};
 
@@ -11,6 +10,7 @@ use crate::desks::desk_of;
 use crate::rows::{JudgedRow, RefusedRow, UnreadRow, YardRow};
 use slab_desk::MemDesk;
 use slab_front::run;
+use slab_node::Tally;
 use std::alloc::{AllocError, Global};
 
 /// The status with which a run ended, what it said, and how often the desk failed.
@@ -35,7 +35,7 @@ pub fn run_refused(alloc: Global, row: &RefusedRow) -> Result<Ended, AllocError>
     requires { IsRefusedRow row.now }
     ensures { IfOk result (EndsSo 2 row.now.1.now) }
 {
-    let ended = run_files(alloc, "solve orders", row.0, b"", b"")?;
+    let ended = run_files(alloc, "solve orders cert", row.0, b"", b"")?;
     Ok(ended)
 }
 
@@ -85,10 +85,10 @@ fn run_files(
 
 /// Runs the program on the words of a text, and answers its status.
 pub fn run_words(alloc: Global, text: &str, desk: &mut MemDesk) -> Result<u8, AllocError>
-    ensures { IfOk result (λ status. Ran (Owes (words_of text.now)) status desk.old.told desk.new.told) }
+    ensures { IfOk result (λ status. RanAsOwed (words_of text.now) status desk.old.told desk.new.told) }
 {
     let words = split(alloc, text)?;
-    Ok(run(alloc, &words, desk))
+    Ok(run(alloc, &words, desk, &mut Tally::new()))
 }
 
 // The words between single spaces; none of an empty text.

@@ -1,8 +1,10 @@
-use Rattle.std.proofs.Common.{ℕ, List, length, Option, Bor}
-use Rattle.std.specs.Option.{option_map}
+use Rattle.std.proofs.Common.{ℕ, List, length}
 use Rattle.std.specs.String.{string_bytes}
 use Rattle.slab_front.specs.declared.texts.Source.TheVariants.{Plan as PlanSource}
 use Rattle.mill_read.specs.PlanFile.{plan_file}
+use Rattle.slab_front.specs.Words.{MillWords}
+use Rattle.slab_front.specs.Jobs.{named_mill}
+use Rattle.slab_front.specs.Outcomes.{saying}
 use Rattle.slab_front.specs.Owed.{OwesVerdict, OwesOfPlan, OwesOfMill}
 use Rattle.slab_front.specs.Endings.{HasValue, HasMill}
 use Rattle.slab_front.proofs.Owing.{owes_mill, owes_value}
@@ -11,16 +13,15 @@ use Rattle.slab_front.proofs.judge.judge.Goals as goal
 
 pub returns-clause-ending : goal.returns-clause-ending
 returns-clause-ending g c =
-    let yard : Option (List ℕ) = option_map (λ (name : Bor (List ℕ)). name.now) c.args.yard in
-    let orders : List ℕ = c.args.orders.now in
+    let words : MillWords = named_mill c.args.orders c.args.yard c.args.colours in
     let name : List ℕ = c.args.plan.now in
     let mill = c.in_ok-mill.mill in
     let plan = c.in_ok-plan.plan in
     let status : ℕ = c.in_ok-verdict.field-0.status in
     let text : List ℕ = string_bytes c.in_ok-verdict.field-0.text in
-    told_both (HasMill orders yard mill) (HasValue (plan_file (length mill.orders)) name plan) (λ files. OwesOfMill (OwesOfPlan files name) files orders yard status text)
+    told_both (HasMill words mill) (HasValue (plan_file (length mill.orders)) name plan) (λ files. OwesOfMill (OwesOfPlan files name) files words status (saying text))
     (g.D.Desk.told c.args.desk.now)
-    (λ files has read. owes_mill (OwesOfPlan files name) files orders yard mill status text has
-    (owes_value PlanSource (plan_file (length mill.orders)) (OwesVerdict mill) files name plan status text read c.in_ok-verdict.ensures.owed))
+    (λ files has read. owes_mill (OwesOfPlan files name) files words mill status (saying text) has
+    (owes_value PlanSource (plan_file (length mill.orders)) (OwesVerdict mill) files name plan status (saying text) read c.in_ok-verdict.ensures.owed))
     c.in_ok-mill.ensures.mill
     (told_before (HasValue (plan_file (length mill.orders)) name plan) (g.D.Desk.told c.args.desk.now) (g.D.Desk.told c.read_mill.new.desk) c.in_ok-mill.ensures.reads.left c.in_ok-plan.ensures.plan)

@@ -30,7 +30,7 @@ returns-then-is_hopeless-clause-improved t c =
     let most = c.args.picks.now.best.excess in
     let small : unsigned_abs c.args.gain ≤ 2 ^ 92 = taken_small h c.args.left chosen c.args.weight c.args.gain c.requires.taken in
     let bound : IsMostIn h c.args.left c.args.weight (most -ℤ c.args.gain) = most_weaker h.search.task.mill.now h.search.task.prices.now h.search.frame.now.groups (left_of h.queue.now.heads.items c.args.left) c.args.weight
-        (to_z w128 (of_z w128 most) -ℤ to_z w128 (of_z w128 c.args.gain)) (most -ℤ c.args.gain) (omega (arith, ints, small)) c.if-is_hopeless.ensures in
+    (to_z w128 (of_z w128 most) -ℤ to_z w128 (of_z w128 c.args.gain)) (most -ℤ c.args.gain) (omega (arith, ints, small)) c.if-is_hopeless.ensures in
     improved_same (problem_of h.search.task) c.args.picks.now.best (IsChoiceIn h chosen c.args.left) (taken_bounded h c.args.left chosen c.args.weight c.args.gain c.requires.taken most bound)
 
 pub walk-requires : goal.walk-requires

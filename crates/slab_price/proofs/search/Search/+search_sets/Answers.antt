@@ -81,8 +81,7 @@ search_sets-requires t c =
     let pushed : c.push_reserved.new.self.items ≡ taken ++ get_or ranking (c.args.rank - 1) 0 ∷ [] = c.push_reserved.ensures.items ∙ ap (λ (x : ℕ). taken ++ x ∷ []) colour in
     let more : AreTakenFrom s (c.args.rank - 1) c.push_reserved.new.self.items (to_z w128 (of_z w128 (to_z w128 (of_z w128 c.args.worth) +ℤ to_z w128 (of_z w128 c.index.result.now)))) =
     subst (λ (xs : List ℕ). AreTakenFrom s (c.args.rank - 1) xs (to_z w128 (of_z w128 (to_z w128 (of_z w128 c.args.worth) +ℤ to_z w128 (of_z w128 c.index.result.now))))) (sym pushed)
-    (subst (AreTakenFrom s (c.args.rank - 1) (taken ++ get_or ranking (c.args.rank - 1) 0 ∷ [])) (sym richer) (next_taken s c.args.rank taken c.args.worth c.if-rank-eq0.false c.requires.taken)) in
-    (
+    (subst (AreTakenFrom s (c.args.rank - 1) (taken ++ get_or ranking (c.args.rank - 1) 0 ∷ [])) (sym richer) (next_taken s c.args.rank taken c.args.worth c.if-rank-eq0.false c.requires.taken)) in (
       search rules,
       (
         omega (arith, c.requires.rank),
@@ -97,8 +96,7 @@ search_sets-requires-2 t c =
     let few : length taken ≤ 3 = omega (arith, c.requires.few, s.task.asked.limits.colour_limit.1) in
     let small : unsigned_abs c.args.worth ≤ 2 ^ 97 = taken_worth_small s c.args.rank taken c.args.worth few c.requires.taken in
     let back : to_z w128 (of_z w128 c.args.worth) ≡ c.args.worth = omega (arith, ints, small) in
-    let same : c.pop.new.self.items ≡ taken = popped taken c.search_sets.new.space.colours.items c.pop.new.self.items c.index-colour.result.now _ (c.search_sets.ensures.colours ∙ c.push_reserved.ensures.items) refl c.pop.ensures.rest in
-    (
+    let same : c.pop.new.self.items ≡ taken = popped taken c.search_sets.new.space.colours.items c.pop.new.self.items c.index-colour.result.now _ (c.search_sets.ensures.colours ∙ c.push_reserved.ensures.items) refl c.pop.ensures.rest in (
       search rules,
       (
         omega (arith, c.requires.rank),

@@ -54,4 +54,4 @@ returns c taken from =
     let bound : ExceedAtMost q ((c.args.worth +ℤ pos left *ℤ top) -ℤ floor) (IsOfSetIn s taken c.args.rank left) =
     set_bounded q s.frame.now.groups s.framed.groups s.frame.now.worths.items s.framed.worths floor s.framed.floor s.task.asked.sign s.frame.now.ranking.items c.args.rank left taken c.args.worth top from c.top.ensures.sign c.top.ensures.most in
     OnTrue_from _ _ (λ e. exceed_weaker q ((c.args.worth +ℤ pos left *ℤ top) -ℤ floor) c.args.best (IsOfSetIn s taken c.args.rank left) (IsOfSetIn s taken c.args.rank left)
-        (low c.args.worth (to_z w128 (of_z w128 (to_z w128 (of_z w128 c.from.result) *ℤ to_z w128 (of_z w128 top)))) (pos left *ℤ top) floor c.args.best back few c.requires.small s.framed.small c.ranges.best e) (λ d allowed set. set) bound)
+    (low c.args.worth (to_z w128 (of_z w128 (to_z w128 (of_z w128 c.from.result) *ℤ to_z w128 (of_z w128 top)))) (pos left *ℤ top) floor c.args.best back few c.requires.small s.framed.small c.ranges.best e) (λ d allowed set. set) bound)

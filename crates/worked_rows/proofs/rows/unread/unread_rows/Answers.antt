@@ -4,34 +4,4 @@ use Rattle.worked_rows.proofs.rows.unread.unread_rows.Goals as goal
 
 pub returns : goal.returns
 unfolding digits
-returns c = (
-  record { owed = λ files h. (refl, refl); only = λ files other text h o. o },
-  (
-    record { owed = λ files h. (refl, refl); only = λ files other text h o. o },
-    (
-      record { owed = λ files h. (refl, refl); only = λ files other text h o. o },
-      (
-        record { owed = λ files h. (refl, refl); only = λ files other text h o. o },
-        (
-          record { owed = λ files h. (refl, refl); only = λ files other text h o. o },
-          (
-            record { owed = λ files h. (refl, refl); only = λ files other text h o. o },
-            (
-              record { owed = λ files h. (refl, refl); only = λ files other text h o. o },
-              (
-                record { owed = λ files h. (refl, refl); only = λ files other text h o. o },
-                (
-                  record { owed = λ files h. (refl, refl); only = λ files other text h o. o },
-                  (
-                    record { owed = λ files h. (refl, refl); only = λ files other text h o. o },
-                    (record { owed = λ files h. (refl, refl); only = λ files other text h o. o }, tt),
-                  ),
-                ),
-              ),
-            ),
-          ),
-        ),
-      ),
-    ),
-  ),
-)
+returns c = (record { owed = λ files was is h. (refl, refl); only = λ files was is other o h owed. owed }, (record { owed = λ files was is h. (refl, refl); only = λ files was is other o h owed. owed }, (record { owed = λ files was is h. (refl, refl); only = λ files was is other o h owed. owed }, (record { owed = λ files was is h. (refl, refl); only = λ files was is other o h owed. owed }, (record { owed = λ files was is h. (refl, refl); only = λ files was is other o h owed. owed }, (record { owed = λ files was is h. (refl, refl); only = λ files was is other o h owed. owed }, (record { owed = λ files was is h. (refl, refl); only = λ files was is other o h owed. owed }, (record { owed = λ files was is h. (refl, refl); only = λ files was is other o h owed. owed }, (record { owed = λ files was is h. (refl, refl); only = λ files was is other o h owed. owed }, (record { owed = λ files was is h. (refl, refl); only = λ files was is other o h owed. owed }, (record { owed = λ files was is h. (refl, refl); only = λ files was is other o h owed. owed }, (record { owed = λ files was is h. (refl, refl); only = λ files was is other o h owed. owed }, (record { owed = λ files was is h. (refl, refl); only = λ files was is other o h owed. owed }, (record { owed = λ files was is h. (refl, refl); only = λ files was is other o h owed. owed }, (record { owed = λ files was is h. (refl, refl); only = λ files was is other o h owed. owed }, (record { owed = λ files was is h. (refl, refl); only = λ files was is other o h owed. owed }, (record { owed = λ files was is h. (refl, refl); only = λ files was is other o h owed. owed }, (record { owed = λ files was is h. (refl, refl); only = λ files was is other o h owed. owed }, tt))))))))))))))))))

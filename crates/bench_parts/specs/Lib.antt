@@ -1,3 +1,0 @@
-pub mod Random
-pub mod Pairs
-pub mod Replays

@@ -1,5 +1,0 @@
--- Numbers that look random.
-use Rattle.std.specs.Prelude.{ℕ, ◌+◌, ◌*◌, ◌%◌, ◌^◌}
-
-abbrev pub next_state : ℕ → ℕ
-next_state state = (state * 6364136223846793005 % 2 ^ 64 + 1442695040888963407) % 2 ^ 64

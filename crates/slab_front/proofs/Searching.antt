@@ -1,0 +1,222 @@
+-- What a sweep answers is what a search finds.
+use Rattle.std.proofs.Common.{◌≡◌, ℕ, ◌+◌, ◌*◌, ◌<◌, ◌≤◌, ◌⊎◌, inl, inr, List, [], ◌∷◌, length, Option, Some, None, refl, sym, subst, arith}
+use Rattle.std.specs.List.{AllByRecursion}
+use Rattle.std.proofs.lemmas.Nat.{mul-le}
+use Rattle.slab_counter.specs.Counter.{last_count}
+use Rattle.mill_model.specs.declared.sums.Sums.{Sums}
+use Rattle.mill_model.specs.declared.version.Version.TheVariants.{Two}
+use Rattle.mill_model.specs.Mill.{Mill, IsInLimits}
+use Rattle.mill_model.specs.Plans.{Plan, IsLegal}
+use Rattle.mill_model.specs.Trees.{most_nodes}
+use Rattle.mill_model.specs.Marks.{MarkedSteps}
+use Rattle.mill_model.specs.Fronts.{Point, IsPoint, IsGoodFrom, IsGoodHead, sums_list}
+use Rattle.slab_relax.specs.declared.tally.Tally.{Tally}
+use Rattle.slab_relax.specs.Tallies.{HaveCauses}
+use Rattle.slab_tree.specs.Counts.{Counts}
+use Rattle.slab_tree.specs.Marking.{bare_marks}
+use Rattle.slab_sweep.specs.declared.swept.Swept.{Swept}
+use Rattle.slab_sweep.specs.declared.swept.Swept.TheVariants.{Complete, NoPlan, Budget}
+use Rattle.slab_sweep.specs.Counting.{most_questions, OpensFew, CountsNodes, CountsBares}
+use Rattle.slab_sweep.specs.Made.{nodes_of, bares_of}
+use Rattle.slab_sweep.specs.Swept.{IsSwept, IsSweptAtOnce, IsToldPlainly, made_nodes, added_to}
+use Rattle.slab_start.specs.FirstFit.{first_fit, place_orders, by_weight, plan_of_filled}
+use Rattle.slab_start.specs.Made.{made_mill}
+use Rattle.slab_start.proofs.Started.{first_fit_starts}
+use Rattle.slab_start.proofs.MadePlain.{made_is_plain}
+use Rattle.mill_model.specs.Columns.{Column}
+use Rattle.std.specs.Option.{option_map}
+use Rattle.slab_start.specs.Plain.{IsPlainMill}
+use Rattle.cert_text.specs.Certificates.{Ending, Certificate, IsGood, ShowsFront, ShowsNoPlan, AreMarksOf, finished_trees}
+use Rattle.cert_text.specs.Certificates.Ending.{Whole, Cut}
+use Rattle.cert_text.proofs.Shown.{what_is_shown_holds}
+use Rattle.slab_front.specs.Words.{most_limit}
+use Rattle.slab_front.specs.Searched.{Searched, certificate_of, status_of, status_with, end_word, ending_nodes, IsCounted, HasPlan, AreTheFront, attained, FindsFront, FindsNoPlan, IsCutShort, IsSearched}
+use Rattle.slab_front.specs.Searches.{searched, HasPointIfWhole}
+
+-- no node was opened yet
+abbrev pub start : ℕ → Counts
+start limit = record { limit = limit; opened = 0; bare = 0 }
+
+-- ---- counts
+
+few_questions : (m : Mill) → IsInLimits m → most_questions m ≤ 252
+few_questions m limits = omega (arith, limits.order_count)
+
+-- so few nodes are opened that their count doesn't come to its end
+below_end : (m : Mill) (limit : ℕ) (new : Counts) → IsInLimits m → limit ≤ most_limit → OpensFew m (start limit) new → new.opened < last_count
+below_end m limit new limits fits opens =
+    omega (arith, opens.limited, mul-le (most_questions m) limit 252 1000000000000000 (few_questions m limits) fits)
+
+is_reached : (made count : ℕ) → count < last_count → (0 + made ≤ count) ⊎ (last_count ≤ count) → made ≤ count
+is_reached made count below (inl h) = omega arith
+is_reached made count below (inr h) = absurd (omega arith)
+
+counted : (m : Mill) (limit last_bares : ℕ) (was is : Tally) (new : Counts) (s : Searched)
+    → IsInLimits m → limit ≤ most_limit → s.opened ≡ new.opened → s.bare ≡ new.bare
+    → OpensFew m (start limit) new → HaveCauses 0 was s.bare is → new.bare ≤ new.opened
+    → CountsNodes (nodes_of (added_to [] s.points) + ending_nodes s.ending) (start limit) new
+    → CountsBares (bares_of (added_to [] s.points) + last_bares) (start limit) new was is
+    → IsCounted m [] limit last_bares was is s
+counted m limit last_bares was is new s limits fits opened bare opens causes among nodes bares =
+    let end : new.opened < last_count = below_end m limit new limits fits opens in
+    record {
+      limited = omega (arith, opened, opens.limited);
+      bounded = omega (arith, opened, opens.bounded);
+      nodes = omega (arith, opened, is_reached (nodes_of (added_to [] s.points) + ending_nodes s.ending) new.opened end nodes);
+      bares = omega (arith, bare, is_reached (bares_of (added_to [] s.points) + last_bares) new.bare (omega (arith, end, among)) bares.counted);
+      among = omega (arith, opened, bare, among);
+      causes = causes;
+    }
+
+-- ---- certificates
+
+plans_of : (m : Mill) (before : Option Sums) (points : List Point) → IsGoodFrom m before points → AllByRecursion (IsPoint m) (attained points)
+plans_of m before [] good = tt
+plans_of m before (point ∷ points) (good, later) =
+    (record { legal = good.legal; order = good.order; sums = good.sums }, plans_of m (Some point.sums) points later)
+
+some_plan : (m : Mill) (points : List Point) → IsGoodHead m points → 0 < length points → HasPlan m
+some_plan m [] good some = absurd (omega arith)
+some_plan m (point ∷ points) (good, later) some = (point.plan, good.legal)
+
+-- version 2 asks nothing of marks
+free_marks : (trees : List MarkedSteps) → AllByRecursion (λ (s : MarkedSteps). AreMarksOf Two s.marks) trees
+free_marks [] = tt
+free_marks (s ∷ trees) = (tt, free_marks trees)
+
+-- ---- answers
+
+complete_status : (points : List Point) (last : MarkedSteps) → 0 < length points → status_with (end_word points (Whole last)) ≡ 0
+complete_status [] last some = absurd (omega arith)
+complete_status (point ∷ points) last some = refl
+
+cut_status : (points : List Point) (rest : List (Option _)) → status_with (end_word points (Cut rest)) ≡ 3
+cut_status [] rest = refl
+cut_status (point ∷ points) rest = refl
+
+first_of_filled : (m : Mill) (filled : Option (List Column)) (plan : Plan) → IsInLimits m → place_orders m None (by_weight m) [] ≡ filled
+    → option_map (plan_of_filled m) filled ≡ Some plan → IsLegal m plan
+first_of_filled m None plan limits placed is = absurd (cc is)
+first_of_filled m (Some slabs) plan limits placed is =
+    subst (λ (p : Plan). IsLegal m p) (same_plan (plan_of_filled m slabs) plan is) (first_fit_starts m None slabs limits refl placed).legal
+  where
+    same_plan : (a b : Plan) → Some a ≡ Some b → a ≡ b
+    same_plan a b e = cc e
+
+-- the first-fit plan is legal
+first_is_legal : (m : Mill) (plan : Plan) → IsInLimits m → first_fit m None ≡ Some plan → IsLegal m plan
+first_is_legal m plan limits is = first_of_filled m (place_orders m None (by_weight m) []) plan limits refl is
+
+none_before : (x : ℕ) → x ≡ 0 + x
+none_before x = omega arith
+
+told_plainly : (m : Mill) → IsPlainMill m → IsToldPlainly (Some first_fit) m
+told_plainly m plain = record {
+  plan = plain.plan;
+  answers = first_fit;
+  tells = refl;
+  answer = plain.first;
+  lossless = plain.loss;
+  refuted = plain.refuted;
+}
+
+few_nodes : (m : Mill) (limit : ℕ) → limit + 2 ≤ most_nodes m → limit < (length m.orders + 2) * most_nodes m
+few_nodes m limit few = omega (arith, mul-le 1 (most_nodes m) (length m.orders + 2) (most_nodes m) (omega arith) (omega arith))
+
+pub found : (m : Mill) (limit : ℕ) (was is : Tally) (new : Counts) (swept : Swept) → IsInLimits m → limit ≤ most_limit
+    → IsSwept (Some first_fit) m [] (start limit) new was is swept
+    → CountsNodes (made_nodes [] swept) (start limit) new
+    → (IsToldPlainly (Some first_fit) m → ◌≡◌ {A = List Point} [] [] → IsSweptAtOnce (start limit) new swept)
+    → OpensFew m (start limit) new → HaveCauses 0 was new.bare is → new.bare ≤ new.opened
+    → IsSearched m [] limit was is (status_of (searched swept new.opened new.bare)) (searched swept new.opened new.bare)
+found m limit was is new (Complete front) limits fits (whole, bares) nodes plain opens causes among =
+    let s : Searched = searched (Complete front) new.opened new.bare in
+    let good : IsGood m (certificate_of s) = record { ended = whole.good; marks = free_marks (finished_trees (certificate_of s)) } in
+    let shows : ShowsFront m (certificate_of s) = record { good = good; whole = tt; some = whole.some } in
+    inl (
+      complete_status front.points front.last whole.some,
+      record {
+        plan = some_plan m front.points whole.good.head whole.some;
+        points = record { front = (what_is_shown_holds m (certificate_of s)).0 shows; plans = plans_of m None front.points whole.good.head };
+        shows = shows;
+        goes_on = whole.goes_on;
+        last = front.last;
+        ending = refl;
+        made = whole.rest;
+        counts = counted m limit (bare_marks front.last.marks) was is new s limits fits refl refl opens causes among nodes bares;
+      },
+    )
+found m limit was is new (NoPlan last) limits fits (nothing, bares) nodes plain opens causes among =
+    let s : Searched = searched (NoPlan last) new.opened new.bare in
+    let good : IsGood m (certificate_of s) = record { ended = nothing.good; marks = free_marks (finished_trees (certificate_of s)) } in
+    let shows : ShowsNoPlan m (certificate_of s) = record { good = good; whole = tt; none = refl } in
+    inr (inr (
+      refl,
+      record {
+        none = λ plan. (what_is_shown_holds m (certificate_of s)).1 shows plan.0 plan.1;
+        unplain = λ is_plain. (what_is_shown_holds m (certificate_of s)).1 shows is_plain.plan (first_is_legal m is_plain.plan limits is_plain.first);
+        points = refl;
+        shows = shows;
+        last = last;
+        ending = refl;
+        made = nothing.rest;
+        counts = counted m limit (bare_marks last.marks) was is new s limits fits refl refl opens causes among
+            (subst (λ (x : ℕ). CountsNodes x (start limit) new) (none_before (length last.steps)) nodes)
+            (subst (λ (x : ℕ). CountsBares x (start limit) new was is) (none_before (bare_marks last.marks)) bares);
+      },
+    ))
+found m limit was is new (Budget points rest) limits fits (some, off, bares) nodes plain opens causes among =
+    let s : Searched = searched (Budget points rest) new.opened new.bare in
+    let good : IsGood m (certificate_of s) = record {
+      ended = record { head = off.head; rest = off.cut.cut.open_tree };
+      marks = free_marks (finished_trees (certificate_of s));
+    } in
+    inr (inl (
+      cut_status points rest,
+      record {
+        shows = record { good = good; cut = tt };
+        goes_on = off.goes_on;
+        rest = rest;
+        ending = refl;
+        bares = some;
+        cut = off.cut;
+        below = few_nodes m limit off.cut.few;
+        unplain = λ _ is_plain. (plain (told_plainly m is_plain) refl).answer;
+        counts = counted m limit some was is new s limits fits refl refl opens causes among nodes bares;
+      },
+    ))
+
+-- the same from the calls of a search
+pub found_from : (m : Mill) (limit : ℕ) (was is : Tally) (old new : Counts) (head : List Point) (swept : Swept) (opened bare : ℕ)
+    → old ≡ start limit → head ≡ [] → opened ≡ new.opened → bare ≡ new.bare → IsInLimits m → limit ≤ most_limit
+    → IsSwept (Some first_fit) m head old new was is swept
+    → CountsNodes (made_nodes head swept) old new
+    → (IsToldPlainly (Some first_fit) m → head ≡ [] → IsSweptAtOnce old new swept)
+    → OpensFew m old new → HaveCauses old.bare was new.bare is → new.bare ≤ new.opened
+    → IsSearched m [] limit was is (status_of (searched swept opened bare)) (searched swept opened bare)
+found_from m limit was is old new head swept opened bare eo eh e1 e2 limits fits given nodes plain opens causes among =
+    subst (λ (x : ℕ). IsSearched m [] limit was is (status_of (searched swept x bare)) (searched swept x bare)) (sym e1)
+    (subst (λ (y : ℕ). IsSearched m [] limit was is (status_of (searched swept new.opened y)) (searched swept new.opened y)) (sym e2)
+    (found m limit was is new swept limits fits
+    (subst (λ (n : Counts). IsSwept (Some first_fit) m [] n new was is swept) eo (subst (λ (h : List Point). IsSwept (Some first_fit) m h old new was is swept) eh given))
+    (subst (λ (n : Counts). CountsNodes (made_nodes [] swept) n new) eo (subst (λ (h : List Point). CountsNodes (made_nodes h swept) old new) eh nodes))
+    (λ told none. subst (λ (n : Counts). IsSweptAtOnce n new swept) eo (plain told eh))
+    (subst (λ (n : Counts). OpensFew m n new) eo opens)
+    (subst (λ (n : Counts). HaveCauses n.bare was new.bare is) eo causes) among))
+
+-- a front that a sweep gave has a point
+pub has_point_from : (m : Mill) (limit : ℕ) (was is : Tally) (old new : Counts) (head : List Point) (swept : Swept)
+    → IsSwept (Some first_fit) m head old new was is swept → HasPointIfWhole swept
+has_point_from m limit was is old new head (Complete front) (whole, bares) = whole.some
+has_point_from m limit was is old new head (NoPlan last) given = tt
+has_point_from m limit was is old new head (Budget points rest) given = tt
+
+-- a made mill has a front
+pub made_found : (orders seed limit : ℕ) (was is : Tally) (m : Mill) (s : Searched) → m ≡ made_mill orders seed
+    → IsSearched m [] limit was is (status_of s) s → (status_of s ≡ 0) × FindsFront (made_mill orders seed) [] limit was is s
+made_found orders seed limit was is m s made found = only (subst (λ (x : Mill). IsSearched x [] limit was is (status_of s) s) made found)
+  where
+    only : IsSearched (made_mill orders seed) [] limit was is (status_of s) s → (status_of s ≡ 0) × FindsFront (made_mill orders seed) [] limit was is s
+    only (inl (zero, front)) = (zero, front)
+    only (inr (inl (three, cut))) = absurd (cut.unplain refl (made_is_plain orders seed).plain)
+    only (inr (inr (four, none))) = absurd (none.unplain (made_is_plain orders seed).plain)

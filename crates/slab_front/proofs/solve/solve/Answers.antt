@@ -1,0 +1,23 @@
+use Rattle.std.proofs.Common.{refl, [], List, ℕ}
+use Rattle.slab_relax.specs.declared.tally.Tally.{Tally}
+use Rattle.slab_front.specs.Words.{MillWords}
+use Rattle.slab_front.specs.Jobs.{named_mill}
+use Rattle.slab_front.specs.Searched.{Searched, status_of}
+use Rattle.slab_front.specs.Owed.{OwesOfMill, OwesSearch, stored_as}
+use Rattle.slab_front.specs.Endings.{HasMill}
+use Rattle.slab_front.proofs.Owing.{owes_mill}
+use Rattle.slab_front.proofs.Telling.{told_each}
+use Rattle.slab_front.proofs.solve.solve.Goals as goal
+
+pub returns-clause-answer : goal.returns-clause-answer
+returns-clause-answer g c =
+    let words : MillWords = named_mill c.args.orders c.args.yard c.args.colours in
+    let name : List ℕ = c.args.cert.now in
+    let was : Tally = c.args.tally.now in
+    let is : Tally = c.search_front.new.tally in
+    let mill = c.in_ok-mill.mill in
+    let s : Searched = c.in_ok-search.search in
+    told_each (HasMill words mill) (λ files. OwesOfMill (OwesSearch (stored_as name) [] c.args.limit was is) files words (status_of s) (stored_as name mill s))
+    (g.D.Desk.told c.args.desk.now)
+    (λ files has. owes_mill (OwesSearch (stored_as name) [] c.args.limit was is) files words mill (status_of s) (stored_as name mill s) has (s, c.in_ok-search.ensures.found, refl))
+    c.in_ok-mill.ensures.mill
