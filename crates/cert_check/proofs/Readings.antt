@@ -30,7 +30,7 @@ use Rattle.cert_rules.proofs.Verdicts.{ends_are_verdicts}
 use Rattle.cert_check.specs.declared.phase.Phase.{Phase}
 use Rattle.cert_check.specs.declared.phase.Phase.TheVariants as phases
 use Rattle.cert_check.specs.Kept.{Kept, Keeps, IsStage, is_rest}
-use Rattle.cert_check.specs.Readings.{Failure, Reading, Runs, phase_room, tree_room}
+use Rattle.cert_check.specs.Readings.{Reading, Runs, phase_room, tree_room}
 
 -- ---- phases and states
 

@@ -20,6 +20,7 @@ pub struct Checker<'m> {
 
 impl<'m> Model for Checker<'m> {
     ghost use Rattle.std.specs.Prelude.{[], None};
+    ghost use Rattle.cert_rules.specs.States.Wanted.{All};
     ghost use Rattle.mill_model.specs.declared.version.Version.TheVariants.{One};
     ghost use Rattle.cert_check.specs.declared.phase.Phase.TheVariants as phases;
     ghost use Rattle.cert_check.specs.Readings.{Reading};
@@ -29,7 +30,7 @@ impl<'m> Model for Checker<'m> {
     ghost use Rattle.std.specs.Prelude.{pos};
 
     ghost view = { λ c. record {
-      mill = c.mill.now;
+      mill = c.mill.now; wanted = All;
       kept = record {
         version = One;
         points = [];
@@ -51,7 +52,7 @@ impl<'m> Checker<'m> {
 
     /// A checker that was fed nothing. It takes all the memory that a checker ever takes.
     pub fn new(alloc: Global, mill: &'m Mill) -> Result<Checker<'m>, AllocError>
-        ensures stands { IfOk result (λ c. Stands All c []) }
+        ensures stands { IfOk result (λ c. Stands c []) }
         ensures mill { IfOk result (λ c. c.mill ≡ mill.now) }
     {
         let _mill = mill;
@@ -62,8 +63,8 @@ impl<'m> Checker<'m> {
     /// Takes more bytes. However they were cut, the checker stands for all bytes that it was fed. Unless a line is bad, the
     /// room that is left falls by as much as is fed, so that feeding ends.
     pub fn feed(&mut self, piece: &[u8])
-        ensures stands { (bytes : List ℕ) → Stands All self.old bytes → Stands All self.new (bytes ++ piece.now) }
-        ensures room { (bytes : List ℕ) → Stands All self.old bytes → HasLessRoom self.old self.new (length piece.now) }
+        ensures stands { (bytes : List ℕ) → Stands self.old bytes → Stands self.new (bytes ++ piece.now) }
+        ensures room { (bytes : List ℕ) → Stands self.old bytes → HasLessRoom self.old self.new (length piece.now) }
         ensures mill { self.new.mill ≡ self.old.mill }
     {
         let _mill = self.mill;
@@ -75,7 +76,7 @@ impl<'m> Checker<'m> {
     /// read, or 8,192 bytes came without a line feed, or a byte follows the end of the text.
     pub fn failed(&self) -> bool
         ensures value { result ≡ is_some self.now.failed }
-        ensures exact { (bytes : List ℕ) → Stands All self.now bytes → IsTrue result ↔ HasBadLine All self.now.mill bytes }
+        ensures exact { (bytes : List ℕ) → Stands self.now bytes → IsTrue result ↔ HasBadLine All self.now.mill bytes }
     {
         let _mill = self.mill;
         unreachable!()
@@ -83,8 +84,8 @@ impl<'m> Checker<'m> {
 
     /// What the bytes show that the checker was fed.
     pub fn end(self) -> Verdict
-        ensures verdict { (bytes : List ℕ) → Stands All self.entry bytes → IsVerdict self.entry.mill bytes (said_of result) }
-        ensures column { (bytes : List ℕ) → Stands All self.entry bytes → OnNo result (CarriesExceeding self.entry.mill All bytes) }
+        ensures verdict { (bytes : List ℕ) → Stands self.entry bytes → IsVerdict self.entry.mill bytes (said_of result) }
+        ensures column { (bytes : List ℕ) → Stands self.entry bytes → OnNo result (CarriesExceeding self.entry.mill All bytes) }
     {
         let _mill = self.mill;
         unreachable!()

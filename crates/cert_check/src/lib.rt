@@ -3,14 +3,18 @@
 
 mod checker;
 mod draft;
+mod failure;
 mod line_why;
+mod machine;
 mod phase;
 mod points;
+mod reader;
 mod tree;
 mod verdict;
 mod whole;
 
 pub use checker::{Checker, check};
+pub use failure::Failure;
 pub use line_why::{LineWhy, OrderList};
 pub use points::Points;
 pub use verdict::{CertRead, CutRead, Verdict};
