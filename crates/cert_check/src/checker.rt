@@ -30,7 +30,8 @@ impl<'m> Model for Checker<'m> {
     ghost use Rattle.std.specs.Prelude.{pos};
 
     ghost view = { λ c. record {
-      mill = c.mill.now; wanted = All;
+      mill = c.mill.now;
+      wanted = All;
       kept = record {
         version = One;
         points = [];
