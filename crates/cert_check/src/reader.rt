@@ -62,39 +62,19 @@ impl<'m> Reader<'m> {
         ensures wanted { self.new.wanted ≡ self.old.wanted }
     {
         if self.machine.has_ended() {
-            self.fail(LineWhy::Extra);
+            self.failed = Some(failure_after(self.count, LineWhy::Extra));
             return piece.len();
         }
         let taken = self.held.feed(piece);
-        self.line();
-        taken
-    }
-
-    // What has become of the line that is held.
-    fn line(&mut self)
-        requires running { self.old.failed ≡ None }
-        requires unproved { ¬ (self.old.kept.phase ≡ phases.Proved) }
-        requires uncut { ¬ (self.old.kept.phase ≡ phases.Unfinished) }
-        ensures stands { IsFinished self.old self.new }
-        ensures mill { self.new.mill ≡ self.old.mill }
-        ensures wanted { self.new.wanted ≡ self.old.wanted }
-    {
         match read_line(&self.held, &mut self.machine) {
             None => {}
             Some(Ok(())) => {
                 self.count = self.count.saturating_add(1);
                 self.held.clear();
             }
-            Some(Err(why)) => self.fail(why),
+            Some(Err(why)) => self.failed = Some(failure_after(self.count, why)),
         }
-    }
-
-    // The next line is the first bad one.
-    fn fail(&mut self, why: LineWhy)
-        ensures { self.new ≡ record self.old { failed = Some (record { line = number_after self.old.count; why = why }) } }
-    {
-        let line = self.count.saturating_add(1);
-        self.failed = Some(Failure { line, why });
+        taken
     }
 
     // Takes a piece.
@@ -117,6 +97,14 @@ impl<'m> Reader<'m> {
     {
         self.failed.is_some()
     }
+}
+
+// The line after so many is the first bad one.
+fn failure_after(count: u64, why: LineWhy) -> Failure
+    ensures { result ≡ record { line = number_after count; why = why } }
+{
+    let line = count.saturating_add(1);
+    Failure { line, why }
 }
 
 // Reads the held line, if it is whole, and lets the machine take it.
