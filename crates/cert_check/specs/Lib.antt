@@ -3,3 +3,4 @@ pub mod Verdicts
 pub mod Kept
 pub mod Readings
 pub mod Held
+pub mod Stub
