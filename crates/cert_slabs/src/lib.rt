@@ -4,6 +4,11 @@
 //! are read) and `tally` (a spread while its shares are read).
 #![tactic(auto)]
 
+mod colours;
+mod draft;
 mod roster;
+mod slab;
 
+pub use draft::Draft;
 pub use roster::Roster;
+pub use slab::{listed_size, named_slab, test_slab};
