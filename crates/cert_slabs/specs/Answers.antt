@@ -1,13 +1,16 @@
 -- Tests of rules.
-use Rattle.std.specs.Prelude.{◌≡◌, false, List, [], ◌∷◌, Result, Ok, Err}
+use Rattle.std.specs.Prelude.{◌≡◌, ℕ, ◌<◌, ◌≤◌, ◌^◌, ℤ, pos, ◌≤ℤ◌, false, List, [], ◌∷◌, length, Result, Ok, Err}
 use Rattle.mill_model.specs.declared.kind.Kind.{Kind}
 use Rattle.mill_model.specs.declared.kind.Kind.TheVariants.{New, Old}
 use Rattle.mill_model.specs.Mill.{Mill}
-use Rattle.mill_model.specs.Columns.{Column, has_barred}
+use Rattle.mill_model.specs.Columns.{Column, IsInStock, Rises, has_barred}
+use Rattle.mill_model.specs.Shares.{Share}
 use Rattle.cert_rules.specs.declared.why.Why.{Why}
 use Rattle.cert_rules.specs.declared.why.Why.TheVariants as why
 use Rattle.cert_rules.specs.Rules.{Rule, rule, AllKept, FirstBroken}
-use Rattle.cert_rules.specs.Slabs.{FitsLoad, HasFewColours}
+use Rattle.cert_rules.specs.Numbers.{Names}
+use Rattle.cert_rules.specs.Slabs.{IsListed, FitsLoad, HasFewColours}
+use Rattle.cert_rules.specs.Spreads.{AreNamed, column_of, share_of_new, share_of_old}
 
 -- all rules are kept, or this is the first that is broken
 abbrev pub Answers : {T : Type 0} → List Rule → Result T Why → Type 0
@@ -22,3 +25,23 @@ bar_rules m c (Old s) = rule why.Barred (has_barred m c ≡ false) ∷ []
 -- what the mill allows on one slab
 abbrev pub slab_rules : Mill → Column → List Rule
 slab_rules m c = rule why.Load (FitsLoad m c) ∷ rule why.Colours (HasFewColours m c) ∷ bar_rules m c c.kind
+
+-- the rules of a share's line that speak of its column alone
+abbrev pub new_share_front : Mill → List ℤ → List Rule
+new_share_front m [] = rule why.Spelling ⊥ ∷ []
+new_share_front m (x ∷ []) = rule why.Spelling ⊥ ∷ []
+new_share_front m (x ∷ u ∷ numbers) = rule why.Range (pos 1 ≤ℤ x) ∷ rule why.Size (IsListed m u) ∷ rule why.Place (AreNamed m numbers) ∷ slab_rules m (column_of (share_of_new (x ∷ u ∷ numbers)))
+
+abbrev pub old_share_front : Mill → List ℤ → List Rule
+old_share_front m [] = rule why.Spelling ⊥ ∷ []
+old_share_front m (x ∷ []) = rule why.Spelling ⊥ ∷ []
+old_share_front m (x ∷ s ∷ numbers) = rule why.Range (pos 1 ≤ℤ x) ∷ rule why.Yard (Names (length m.yard) s) ∷ rule why.Place (AreNamed m numbers) ∷ slab_rules m (column_of (share_of_old (x ∷ s ∷ numbers)))
+
+-- the share that was read: its column and its multiplier
+pub record IsRead (m : Mill) (share : Share) (times : ℕ) (kind : Kind) (orders : List ℕ) : Type 0 where
+  pub is : share ≡ record { times = pos times; kind = kind; orders = orders }
+  pub low : 1 ≤ times
+  pub high : times ≤ 2 ^ 62
+  pub stock : IsInStock m kind
+  pub rise : Rises 0 (length m.orders) orders
+  pub some : 0 < length orders
