@@ -17,6 +17,8 @@ use Rattle.cert_check.specs.declared.line_why.LineWhy.TheVariants as carried
 use Rattle.cert_rules.specs.States.Owner.{OfPoint, OfRest}
 use Rattle.cert_rules.specs.Room.{sum_below, asks_left, below_node, branch_lines, tree_lines, node_lines, rest_lines, owner_lines}
 use Rattle.cert_rules.specs.declared.why.Why.{Why}
+use Rattle.cert_rules.specs.declared.why.Why.TheVariants as why
+use Rattle.mill_model.specs.Columns.{Column}
 use Rattle.cert_check.specs.declared.phase.Phase.{Phase}
 use Rattle.cert_check.specs.declared.phase.Phase.TheVariants as phases
 use Rattle.cert_rules.specs.Stands.{IsRunning, HasFailed}
@@ -99,6 +101,8 @@ pub record Machine : Type 0 where
   pub mill : Mill
   pub wanted : Wanted
   pub kept : Kept
+  -- the exceeding column of the leaf that was tested last
+  pub bad : Option Column
 
 -- for each state that is kept, the line keeps its rules, and the state after it is kept
 abbrev pub GoesOn : Machine → Machine → Line → Type 0
@@ -109,9 +113,14 @@ abbrev pub CarriesFor : Mill → State → Line → LineWhy → Type 0
 CarriesFor m state line (carried.Column kind orders) = (numbers : List ℤ) × (line ≡ lines.Leaf numbers) × IsExceeding m (path_of state) (prices_of (length m.orders) numbers) (record { kind = kind; orders = orders })
 CarriesFor m state line other = Unit {0}
 
--- for each state that is kept, this is the first rule that the line breaks
-abbrev pub IsRefused : Machine → Line → LineWhy → Type 0
-IsRefused old line broken = (state : State) → Keeps old.mill old.kept state → FirstBroken (line_rules old.mill old.wanted state line) (why_of broken) × CarriesFor old.mill state line broken
+-- the line is a leaf, and this is a column that exceeds its prices
+abbrev pub IsFoundAt : Mill → State → Line → Option Column → Type 0
+IsFoundAt m state line None = ⊥
+IsFoundAt m state line (Some c) = (numbers : List ℤ) × (line ≡ lines.Leaf numbers) × IsExceeding m (path_of state) (prices_of (length m.orders) numbers) c
+
+-- for each state that is kept, this is the first rule that the line breaks; where it is that of columns, one was found
+abbrev pub IsRefused : Machine → Machine → Line → Why → Type 0
+IsRefused old new line broken = (state : State) → Keeps old.mill old.kept state → FirstBroken (line_rules old.mill old.wanted state line) broken × (broken ≡ why.Column → IsFoundAt old.mill state line new.bad)
 
 -- a held line that is bad: it can't be read, or it breaks a rule
 pub record IsBadHeld (old : Machine) (held : List ℕ) (broken : LineWhy) : Type 0 where

@@ -5,7 +5,6 @@
 #![tactic(auto)]
 
 mod checker;
-mod draft;
 mod failure;
 mod line_why;
 mod machine;
