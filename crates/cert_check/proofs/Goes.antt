@@ -16,7 +16,7 @@ use Rattle.cert_rules.specs.declared.why.Why.{Why}
 use Rattle.cert_rules.specs.declared.why.Why.TheVariants as why
 use Rattle.cert_rules.specs.Rules.{Rule, AllKept, FirstBroken}
 use Rattle.cert_rules.specs.Numbers.{number_at}
-use Rattle.cert_rules.specs.States.{Wanted, Owner, Goal, Stage, State, Outcome, latest, limits_of, tree_limits, after_owner, branch_or}
+use Rattle.cert_rules.specs.States.{Wanted, Owner, Goal, Stage, State, Outcome, latest, limits_of, tree_limits, after_owner, after_tree, branch_or}
 use Rattle.cert_rules.specs.States.Wanted.{All, Cuts}
 use Rattle.cert_rules.specs.States.Owner.{OfPoint, OfRest}
 use Rattle.cert_rules.specs.States.Outcome.{Proved, Unfinished}
@@ -25,7 +25,7 @@ use Rattle.cert_rules.specs.States.State.{Begin, BetweenPoints, InPlan, InTree, 
 use Rattle.cert_rules.specs.Leaves.{leaf_rules}
 use Rattle.cert_rules.specs.Slabs.{sums_of_line, point_rules, new_slab, new_rules, old_slab, old_rules, plan_rules}
 use Rattle.cert_rules.specs.Spreads.{spread_rules, share_of_new, new_share_rules, share_of_old, old_share_rules, cover_rules}
-use Rattle.cert_rules.specs.Turns.{Turn, rules_of, next_of, turn, turn_to_ask, turn_at_start, turn_in_plan, turn_in_tree, turn_between, turn_at_begin, turn_after_shares, turn_in_open_tree, line_rules, line_next, with_rules}
+use Rattle.cert_rules.specs.Turns.{Turn, rules_of, next_of, turn, turn_to_ask, turn_to_leaf, turn_at_start, turn_in_spread, turn_in_plan, turn_in_tree, turn_between, turn_at_begin, turn_after_shares, turn_in_open_tree, line_rules, line_next, with_rules}
 use Rattle.cert_rules.specs.Turns.Turn.{Refused, Taken}
 use Rattle.cert_rules.proofs.Steps.{with_back}
 use Rattle.cert_slabs.specs.Drafts.{Draft, IsDraft}
@@ -35,7 +35,7 @@ use Rattle.cert_check.specs.declared.phase.Phase.TheVariants as phases
 use Rattle.cert_check.specs.Kept.{Kept, Keeps, is_rest, owner_of}
 use Rattle.cert_check.specs.Verdicts.{path_of}
 use Rattle.cert_check.specs.Readings.{Machine, GoesOn, IsRefused, IsFoundAt}
-use Rattle.cert_check.proofs.States.{goal_of, begin_state, between_state, IsPlanState, plan_state, tree_state, question_state, IsSpreadState, spread_state, open_state}
+use Rattle.cert_check.proofs.States.{goal_of, begin_state, between_state, IsPlanState, plan_state, tree_state, question_state, IsSpreadState, spread_state, open_state, proved_state, unfinished_state}
 
 -- ---- rules that aren't that of columns
 
@@ -54,6 +54,11 @@ not_broken broken (r ∷ rules) h f = elim f [
 -- a broken rule of these isn't that of columns
 pub no_column : (old : Machine) (state : State) (line : Line) (bad : Option Column) (rules : List Rule) (broken : Why) → HaveOther why.Column rules → FirstBroken rules broken → broken ≡ why.Column → IsFoundAt old.mill state line bad
 no_column old state line bad rules broken h f e = absurd (not_broken why.Column rules h (subst (λ x. FirstBroken rules x) e f))
+
+-- a column is found by the path alone
+same_found : (m : Mill) (s t : State) (line : Line) (bad : Option Column) → path_of s ≡ path_of t → IsFoundAt m s line bad → IsFoundAt m t line bad
+same_found m s t line None e h = h
+same_found m s t line (Some c) e h = (h.0, h.1, subst (λ path. IsExceeding m path (prices_of (length m.orders) h.0) c) e h.2)
 
 -- ---- the state of a phase
 
@@ -374,4 +379,459 @@ module _ (old mid new : Machine) (line : Line) (at : old.kept.phase ≡ phases.P
          λ e. moved state s (subst (λ m. IsFoundAt m (InTree (goal_at state s) Begins []) line new.bad) mill (g.1 e)))
       where
         moved : (state : State) (s : IsPlanState old.mill old.kept state) → IsFoundAt old.mill (InTree (goal_at state s) Begins []) line new.bad → IsFoundAt old.mill state line new.bad
-        moved state s = subst (λ x. IsFoundAt old.mill x line new.bad) (sym s.is)
+        moved state s = same_found old.mill (InTree (goal_at state s) Begins []) state line new.bad (sym (ap path_of s.is))
+
+-- ---- questions
+
+abbrev pub is_ask : Line → Bool
+is_ask lines.Header = false
+is_ask lines.Header2 = false
+is_ask (lines.Point ns) = false
+is_ask (lines.New ns) = false
+is_ask (lines.Old ns) = false
+is_ask (lines.Pair ns) = true
+is_ask (lines.Put ns) = true
+is_ask (lines.Leaf ns) = false
+is_ask lines.Done = false
+is_ask lines.Cut = false
+is_ask lines.Open = false
+is_ask lines.Bare = false
+is_ask lines.Plain = false
+is_ask (lines.Spread ns) = false
+is_ask (lines.CNew ns) = false
+is_ask (lines.COld ns) = false
+
+no_ask : (m : Mill) (at : List Decision → State) (before : List Rule) (path : List Decision) (line : Line) → is_ask line ≡ false → turn_to_ask m at before path line ≡ Refused
+no_ask m at before path lines.Header h = refl
+no_ask m at before path lines.Header2 h = refl
+no_ask m at before path (lines.Point ns) h = refl
+no_ask m at before path (lines.New ns) h = refl
+no_ask m at before path (lines.Old ns) h = refl
+no_ask m at before path (lines.Pair ns) h = cc
+no_ask m at before path (lines.Put ns) h = cc
+no_ask m at before path (lines.Leaf ns) h = refl
+no_ask m at before path lines.Done h = refl
+no_ask m at before path lines.Cut h = refl
+no_ask m at before path lines.Open h = refl
+no_ask m at before path lines.Bare h = refl
+no_ask m at before path lines.Plain h = refl
+no_ask m at before path (lines.Spread ns) h = refl
+no_ask m at before path (lines.CNew ns) h = refl
+no_ask m at before path (lines.COld ns) h = refl
+
+ask_others : (m : Mill) (at : List Decision → State) (path : List Decision) (line : Line) → HaveOther why.Column (rules_of (turn_to_ask m at [] path line))
+ask_others m at path lines.Header = ((λ e. cc), tt)
+ask_others m at path lines.Header2 = ((λ e. cc), tt)
+ask_others m at path (lines.Point ns) = ((λ e. cc), tt)
+ask_others m at path (lines.New ns) = ((λ e. cc), tt)
+ask_others m at path (lines.Old ns) = ((λ e. cc), tt)
+ask_others m at path (lines.Pair ns) = ((λ e. cc), (λ e. cc), tt)
+ask_others m at path (lines.Put ns) = ((λ e. cc), (λ e. cc), tt)
+ask_others m at path (lines.Leaf ns) = ((λ e. cc), tt)
+ask_others m at path lines.Done = ((λ e. cc), tt)
+ask_others m at path lines.Cut = ((λ e. cc), tt)
+ask_others m at path lines.Open = ((λ e. cc), tt)
+ask_others m at path lines.Bare = ((λ e. cc), tt)
+ask_others m at path lines.Plain = ((λ e. cc), tt)
+ask_others m at path (lines.Spread ns) = ((λ e. cc), tt)
+ask_others m at path (lines.CNew ns) = ((λ e. cc), tt)
+ask_others m at path (lines.COld ns) = ((λ e. cc), tt)
+
+-- with rules before its own
+ask_before : (m : Mill) (at : List Decision → State) (before : List Rule) (path : List Decision) (line : Line) → is_ask line ≡ true → turn_to_ask m at before path line ≡ with_rules before (turn_to_ask m at [] path line)
+ask_before m at before path lines.Header h = cc
+ask_before m at before path lines.Header2 h = cc
+ask_before m at before path (lines.Point ns) h = cc
+ask_before m at before path (lines.New ns) h = cc
+ask_before m at before path (lines.Old ns) h = cc
+ask_before m at before path (lines.Pair ns) h = refl
+ask_before m at before path (lines.Put ns) h = refl
+ask_before m at before path (lines.Leaf ns) h = cc
+ask_before m at before path lines.Done h = cc
+ask_before m at before path lines.Cut h = cc
+ask_before m at before path lines.Open h = cc
+ask_before m at before path lines.Bare h = cc
+ask_before m at before path lines.Plain h = cc
+ask_before m at before path (lines.Spread ns) h = cc
+ask_before m at before path (lines.CNew ns) h = cc
+ask_before m at before path (lines.COld ns) h = cc
+
+ask_taken : (m : Mill) (at : List Decision → State) (path : List Decision) (line : Line) → is_ask line ≡ true → IsTaken (turn_to_ask m at [] path line)
+ask_taken m at path lines.Header h = cc
+ask_taken m at path lines.Header2 h = cc
+ask_taken m at path (lines.Point ns) h = cc
+ask_taken m at path (lines.New ns) h = cc
+ask_taken m at path (lines.Old ns) h = cc
+ask_taken m at path (lines.Pair ns) h = tt
+ask_taken m at path (lines.Put ns) h = tt
+ask_taken m at path (lines.Leaf ns) h = cc
+ask_taken m at path lines.Done h = cc
+ask_taken m at path lines.Cut h = cc
+ask_taken m at path lines.Open h = cc
+ask_taken m at path lines.Bare h = cc
+ask_taken m at path lines.Plain h = cc
+ask_taken m at path (lines.Spread ns) h = cc
+ask_taken m at path (lines.CNew ns) h = cc
+ask_taken m at path (lines.COld ns) h = cc
+
+-- what a question's line does to the path
+pub record IsAsked (m : Mill) (path next : List Decision) (line : Line) : Type 0 where
+  pub kept : (at : List Decision → State) → AllKept (rules_of (turn_to_ask m at [] path line))
+  pub next_is : (at : List Decision → State) (state : State) → next_of state (turn_to_ask m at [] path line) ≡ at next
+
+abbrev pub IsNotAsked : Mill → List Decision → Line → Why → Type 0
+IsNotAsked m path line broken = (at : List Decision → State) → FirstBroken (rules_of (turn_to_ask m at [] path line)) broken
+
+module _ (old new : Machine) (line : Line) (here : State) (only : (state : State) → Keeps old.mill old.kept state → state ≡ here) (at : List Decision → State) (is : turn old.mill old.wanted here line ≡ turn_to_ask old.mill at [] old.kept.path line) where
+  pub ask_goes : IsAsked old.mill old.kept.path new.kept.path line → Keeps old.mill new.kept (at new.kept.path) → GoesOn old new line
+  ask_goes asked keeps = goes_at old new line here only
+      (subst (λ t. AllKept (rules_of t)) (sym is) (asked.kept at))
+      (subst (λ t. Keeps old.mill new.kept (next_of here t)) (sym is) (subst (λ x. Keeps old.mill new.kept x) (sym (asked.next_is at here)) keeps))
+
+  pub ask_refused : (broken : Why) → IsNotAsked old.mill old.kept.path line broken → IsRefused old new line broken
+  ask_refused broken f = refused_at old new line here broken only
+      (subst (λ t. FirstBroken (rules_of t) broken) (sym is) (f at))
+      (no_column old here line new.bad (rules_of (turn_to_ask old.mill at [] old.kept.path line)) broken (ask_others old.mill at old.kept.path line) (f at))
+
+-- ---- where a tree begins
+
+rest_is : (rest : Bool) → rest ≡ is_rest (owner_of rest)
+rest_is false = refl
+rest_is true = refl
+
+leaf_turn : (m : Mill) (goal : Goal) (version : Version) (path : List Decision) (ns : List ℤ) → turn_at_start m goal version path (lines.Leaf ns) ≡ turn_to_leaf m goal path ns
+leaf_turn m goal One path ns = refl
+leaf_turn m goal Two path ns = refl
+
+abbrev pub IsNoLeaf : Line → Type 0
+IsNoLeaf lines.Header = Unit {0}
+IsNoLeaf lines.Header2 = Unit {0}
+IsNoLeaf (lines.Point ns) = Unit {0}
+IsNoLeaf (lines.New ns) = Unit {0}
+IsNoLeaf (lines.Old ns) = Unit {0}
+IsNoLeaf (lines.Pair ns) = Unit {0}
+IsNoLeaf (lines.Put ns) = Unit {0}
+IsNoLeaf (lines.Leaf ns) = ⊥
+IsNoLeaf lines.Done = Unit {0}
+IsNoLeaf lines.Cut = Unit {0}
+IsNoLeaf lines.Open = Unit {0}
+IsNoLeaf lines.Bare = Unit {0}
+IsNoLeaf lines.Plain = Unit {0}
+IsNoLeaf (lines.Spread ns) = Unit {0}
+IsNoLeaf (lines.CNew ns) = Unit {0}
+IsNoLeaf (lines.COld ns) = Unit {0}
+
+unmarked_turn : (m : Mill) (goal : Goal) (path : List Decision) (line : Line) → IsNoLeaf line → turn_at_start m goal One path line ≡ turn_to_ask m (InTree goal Begins) [] path line
+unmarked_turn m goal path lines.Header h = refl
+unmarked_turn m goal path lines.Header2 h = refl
+unmarked_turn m goal path (lines.Point ns) h = refl
+unmarked_turn m goal path (lines.New ns) h = refl
+unmarked_turn m goal path (lines.Old ns) h = refl
+unmarked_turn m goal path (lines.Pair ns) h = refl
+unmarked_turn m goal path (lines.Put ns) h = refl
+unmarked_turn m goal path (lines.Leaf ns) h = absurd h
+unmarked_turn m goal path lines.Done h = refl
+unmarked_turn m goal path lines.Cut h = refl
+unmarked_turn m goal path lines.Open h = refl
+unmarked_turn m goal path lines.Bare h = refl
+unmarked_turn m goal path lines.Plain h = refl
+unmarked_turn m goal path (lines.Spread ns) h = refl
+unmarked_turn m goal path (lines.CNew ns) h = refl
+unmarked_turn m goal path (lines.COld ns) h = refl
+
+module _ (old new : Machine) (rest : Bool) where
+  abbrev goal : Goal
+  goal = goal_of old.kept rest
+
+  -- in a tree as before
+  pub stays_in_tree : new.kept.version ≡ old.kept.version → new.kept.points ≡ old.kept.points → new.kept.phase ≡ phases.Tree rest → Keeps old.mill new.kept (InTree goal Begins new.kept.path)
+  stays_in_tree v ps phase = (v, ap reverse ps, refl, phase ∙ ap phases.Tree (rest_is rest))
+
+  abbrev after_leaf : State
+  after_leaf = branch_or (after_tree goal) (InTree goal Begins) (next_branch old.kept.path)
+
+  -- a branch is left
+  pub to_branch : new.kept.version ≡ old.kept.version → new.kept.points ≡ old.kept.points → new.kept.phase ≡ phases.Tree rest → next_branch old.kept.path ≡ Some new.kept.path → Keeps old.mill new.kept after_leaf
+  to_branch v ps phase e = subst (λ o. Keeps old.mill new.kept (branch_or (after_tree goal) (InTree goal Begins) o)) (sym e) (stays_in_tree v ps phase)
+
+  -- the tree has ended
+  pub to_points : rest ≡ false → new.kept.version ≡ old.kept.version → new.kept.points ≡ old.kept.points → new.kept.phase ≡ phases.Between → new.kept.path ≡ [] → next_branch old.kept.path ≡ None → Keeps old.mill new.kept after_leaf
+  to_points r v ps phase path e = subst (λ o. Keeps old.mill new.kept (branch_or (after_tree goal) (InTree goal Begins) o)) (sym e)
+      (subst (λ r. Keeps old.mill new.kept (after_owner (owner_of r) old.kept.version (reverse old.kept.points))) (sym r) (phase, v, ap reverse ps, path))
+
+  pub to_proved : rest ≡ true → new.kept.points ≡ old.kept.points → new.kept.phase ≡ phases.Proved → next_branch old.kept.path ≡ None → Keeps old.mill new.kept after_leaf
+  to_proved r ps phase e = subst (λ o. Keeps old.mill new.kept (branch_or (after_tree goal) (InTree goal Begins) o)) (sym e)
+      (subst (λ r. Keeps old.mill new.kept (after_owner (owner_of r) old.kept.version (reverse old.kept.points))) (sym r) (phase, ap reverse ps))
+
+  module _ (at : old.kept.phase ≡ phases.Tree rest) where
+    in_tree : (state : State) → Keeps old.mill old.kept state → state ≡ InTree goal Begins old.kept.path
+    in_tree state h = tree_state old.mill old.kept state rest h at
+
+    pub tree_unexpected : (line : Line) → can_begin old.kept.version line ≡ false → IsRefused old new line why.Expect
+    tree_unexpected line cannot = unexpected_at old new line (InTree goal Begins old.kept.path) in_tree (cannot_begin old.mill goal old.kept.version old.kept.path line cannot)
+
+    abbrev rules_of_leaf : List ℤ → List Rule
+    rules_of_leaf ns = leaf_rules old.mill (limits_of (owner_of rest) (reverse old.kept.points)) old.kept.path ns
+
+    pub leaf_goes : (ns : List ℤ) → AllKept (rules_of_leaf ns) → Keeps old.mill new.kept after_leaf → GoesOn old new (lines.Leaf ns)
+    leaf_goes ns kept keeps = goes_at old new (lines.Leaf ns) (InTree goal Begins old.kept.path) in_tree
+        (subst (λ t. AllKept (rules_of t)) (sym (leaf_turn old.mill goal old.kept.version old.kept.path ns)) kept)
+        (subst (λ t. Keeps old.mill new.kept (next_of (InTree goal Begins old.kept.path) t)) (sym (leaf_turn old.mill goal old.kept.version old.kept.path ns)) keeps)
+
+    pub leaf_refused : (ns : List ℤ) (broken : Why) → FirstBroken (rules_of_leaf ns) broken → (broken ≡ why.Column → IsFoundAt old.mill (InTree goal Begins old.kept.path) (lines.Leaf ns) new.bad) → IsRefused old new (lines.Leaf ns) broken
+    leaf_refused ns broken f found = refused_at old new (lines.Leaf ns) (InTree goal Begins old.kept.path) broken in_tree
+        (subst (λ t. FirstBroken (rules_of t) broken) (sym (leaf_turn old.mill goal old.kept.version old.kept.path ns)) f) found
+
+    unmarked_is : (line : Line) → old.kept.version ≡ One → IsNoLeaf line → turn old.mill old.wanted (InTree goal Begins old.kept.path) line ≡ turn_to_ask old.mill (InTree goal Begins) [] old.kept.path line
+    unmarked_is line one no_leaf = ap (λ v. turn_at_start old.mill goal v old.kept.path line) one ∙ unmarked_turn old.mill goal old.kept.path line no_leaf
+
+    pub tree_ask_goes : (line : Line) → old.kept.version ≡ One → IsNoLeaf line → IsAsked old.mill old.kept.path new.kept.path line → Keeps old.mill new.kept (InTree goal Begins new.kept.path) → GoesOn old new line
+    tree_ask_goes line one no_leaf = ask_goes old new line (InTree goal Begins old.kept.path) in_tree (InTree goal Begins) (unmarked_is line one no_leaf)
+
+    pub tree_ask_refused : (line : Line) (broken : Why) → old.kept.version ≡ One → IsNoLeaf line → IsNotAsked old.mill old.kept.path line broken → IsRefused old new line broken
+    tree_ask_refused line broken one no_leaf = ask_refused old new line (InTree goal Begins old.kept.path) in_tree (InTree goal Begins) (unmarked_is line one no_leaf) broken
+
+    -- a mark of one line
+    to_question : new.kept.version ≡ old.kept.version → new.kept.points ≡ old.kept.points → new.kept.path ≡ old.kept.path → new.kept.phase ≡ phases.Question rest → Keeps old.mill new.kept (InTree goal Marked old.kept.path)
+    to_question v ps path phase = (v, ap reverse ps, path, phase ∙ ap phases.Question (rest_is rest))
+
+    module _ (two : old.kept.version ≡ Two) where
+      marked_goes : (line : Line) → AllKept (rules_of (turn_at_start old.mill goal Two old.kept.path line)) → Keeps old.mill new.kept (next_of (InTree goal Begins old.kept.path) (turn_at_start old.mill goal Two old.kept.path line)) → GoesOn old new line
+      marked_goes line kept keeps = goes_at old new line (InTree goal Begins old.kept.path) in_tree
+          (subst (λ v. AllKept (rules_of (turn_at_start old.mill goal v old.kept.path line))) (sym two) kept)
+          (subst (λ v. Keeps old.mill new.kept (next_of (InTree goal Begins old.kept.path) (turn_at_start old.mill goal v old.kept.path line))) (sym two) keeps)
+
+      pub bare_goes : new.kept.version ≡ old.kept.version → new.kept.points ≡ old.kept.points → new.kept.path ≡ old.kept.path → new.kept.phase ≡ phases.Question rest → GoesOn old new lines.Bare
+      bare_goes v ps path phase = marked_goes lines.Bare tt (to_question v ps path phase)
+
+      pub plain_goes : new.kept.version ≡ old.kept.version → new.kept.points ≡ old.kept.points → new.kept.path ≡ old.kept.path → new.kept.phase ≡ phases.Question rest → GoesOn old new lines.Plain
+      plain_goes v ps path phase = marked_goes lines.Plain tt (to_question v ps path phase)
+
+      pub spread_goes : (ns : List ℤ) → AllKept (spread_rules ns) → IsTally old.mill (number_at ns 0) [] new.kept.tally → new.kept.version ≡ old.kept.version → new.kept.points ≡ old.kept.points → new.kept.path ≡ old.kept.path → new.kept.phase ≡ phases.Spread rest → GoesOn old new (lines.Spread ns)
+      spread_goes ns kept tally v ps path phase = marked_goes (lines.Spread ns) kept (v, ap reverse ps, path, (phase ∙ ap phases.Spread (rest_is rest), tally))
+
+      pub spread_refused : (ns : List ℤ) (broken : Why) → FirstBroken (spread_rules ns) broken → IsRefused old new (lines.Spread ns) broken
+      spread_refused ns broken f = refused_at old new (lines.Spread ns) (InTree goal Begins old.kept.path) broken in_tree
+          (subst (λ v. FirstBroken (rules_of (turn_at_start old.mill goal v old.kept.path (lines.Spread ns))) broken) (sym two) f)
+          (no_column old (InTree goal Begins old.kept.path) (lines.Spread ns) new.bad (spread_rules ns) broken ((λ e. cc), tt) f)
+
+  -- ---- after a mark
+
+  module _ (at : old.kept.phase ≡ phases.Question rest) where
+    in_question : (state : State) → Keeps old.mill old.kept state → state ≡ InTree goal Marked old.kept.path
+    in_question state h = question_state old.mill old.kept state rest h at
+
+    pub question_goes : (line : Line) → IsAsked old.mill old.kept.path new.kept.path line → Keeps old.mill new.kept (InTree goal Begins new.kept.path) → GoesOn old new line
+    question_goes line = ask_goes old new line (InTree goal Marked old.kept.path) in_question (InTree goal Begins) refl
+
+    pub question_refused : (line : Line) (broken : Why) → IsNotAsked old.mill old.kept.path line broken → IsRefused old new line broken
+    question_refused line broken = ask_refused old new line (InTree goal Marked old.kept.path) in_question (InTree goal Begins) refl broken
+
+-- ---- in a spread
+
+abbrev pub IsNoShare : Line → Type 0
+IsNoShare lines.Header = Unit {0}
+IsNoShare lines.Header2 = Unit {0}
+IsNoShare (lines.Point ns) = Unit {0}
+IsNoShare (lines.New ns) = Unit {0}
+IsNoShare (lines.Old ns) = Unit {0}
+IsNoShare (lines.Pair ns) = Unit {0}
+IsNoShare (lines.Put ns) = Unit {0}
+IsNoShare (lines.Leaf ns) = Unit {0}
+IsNoShare lines.Done = Unit {0}
+IsNoShare lines.Cut = Unit {0}
+IsNoShare lines.Open = Unit {0}
+IsNoShare lines.Bare = Unit {0}
+IsNoShare lines.Plain = Unit {0}
+IsNoShare (lines.Spread ns) = Unit {0}
+IsNoShare (lines.CNew ns) = ⊥
+IsNoShare (lines.COld ns) = ⊥
+
+spread_turn : (m : Mill) (goal : Goal) (d : ℤ) (shares : List Share) (path : List Decision) (line : Line) → IsNoShare line → turn_in_spread m goal d shares path line ≡ turn_after_shares m goal d shares path line
+spread_turn m goal d shares path lines.Header h = refl
+spread_turn m goal d shares path lines.Header2 h = refl
+spread_turn m goal d shares path (lines.Point ns) h = refl
+spread_turn m goal d shares path (lines.New ns) h = refl
+spread_turn m goal d shares path (lines.Old ns) h = refl
+spread_turn m goal d shares path (lines.Pair ns) h = refl
+spread_turn m goal d shares path (lines.Put ns) h = refl
+spread_turn m goal d shares path (lines.Leaf ns) h = refl
+spread_turn m goal d shares path lines.Done h = refl
+spread_turn m goal d shares path lines.Cut h = refl
+spread_turn m goal d shares path lines.Open h = refl
+spread_turn m goal d shares path lines.Bare h = refl
+spread_turn m goal d shares path lines.Plain h = refl
+spread_turn m goal d shares path (lines.Spread ns) h = refl
+spread_turn m goal d shares path (lines.CNew ns) h = absurd h
+spread_turn m goal d shares path (lines.COld ns) h = absurd h
+
+new_share_others : (m : Mill) (path : List Decision) (d : ℕ) (shares : List Share) (ns : List ℤ) → HaveOther why.Column (new_share_rules m path d shares ns)
+new_share_others m path d shares [] = ((λ e. cc), tt)
+new_share_others m path d shares (x ∷ []) = ((λ e. cc), tt)
+new_share_others m path d shares (x ∷ u ∷ ns) = ((λ e. cc), (λ e. cc), (λ e. cc), (λ e. cc), (λ e. cc), (λ e. cc), (λ e. cc), tt)
+
+old_share_others : (m : Mill) (path : List Decision) (d : ℕ) (shares : List Share) (ns : List ℤ) → HaveOther why.Column (old_share_rules m path d shares ns)
+old_share_others m path d shares [] = ((λ e. cc), tt)
+old_share_others m path d shares (x ∷ []) = ((λ e. cc), tt)
+old_share_others m path d shares (x ∷ s ∷ ns) = ((λ e. cc), (λ e. cc), (λ e. cc), (λ e. cc), (λ e. cc), (λ e. cc), (λ e. cc), (λ e. cc), tt)
+
+module _ (old new : Machine) (rest : Bool) (at : old.kept.phase ≡ phases.Spread rest) where
+  abbrev spread : (state : State) → Keeps old.mill old.kept state → IsSpreadState old.mill old.kept rest state
+  spread state h = spread_state old.mill old.kept state rest h at
+
+  abbrev d : ℤ
+  d = old.kept.tally.d
+
+  abbrev spread_goal : Goal
+  spread_goal = goal_of old.kept rest
+
+  abbrev in_spread : List Share → State
+  in_spread shares = InTree spread_goal (InSpread d shares) old.kept.path
+
+  to_spread : new.kept.phase ≡ old.kept.phase → new.kept.version ≡ old.kept.version → new.kept.points ≡ old.kept.points → new.kept.path ≡ old.kept.path → (shares : List Share) → IsTally old.mill d shares new.kept.tally → Keeps old.mill new.kept (in_spread shares)
+  to_spread phase v ps path shares tally = (v, ap reverse ps, path, (phase ∙ at ∙ ap phases.Spread (rest_is rest), tally))
+
+  pub cnew_goes : (ns : List ℤ) → ((shares : List Share) → IsTally old.mill d shares old.kept.tally → AllKept (new_share_rules old.mill old.kept.path (unsigned_abs d) shares ns)) → ((shares : List Share) → IsTally old.mill d shares old.kept.tally → IsTally old.mill d (shares ++ share_of_new ns ∷ []) new.kept.tally)
+      → new.kept.phase ≡ old.kept.phase → new.kept.version ≡ old.kept.version → new.kept.points ≡ old.kept.points → new.kept.path ≡ old.kept.path → GoesOn old new (lines.CNew ns)
+  cnew_goes ns kept tally phase v ps path state h =
+      let s = spread state h in
+      subst (λ x. AllKept (line_rules old.mill old.wanted x (lines.CNew ns)) × Keeps old.mill new.kept (line_next old.mill old.wanted x (lines.CNew ns))) (sym s.is)
+      (kept s.shares s.tally, to_spread phase v ps path (s.shares ++ share_of_new ns ∷ []) (tally s.shares s.tally))
+
+  pub cold_goes : (ns : List ℤ) → ((shares : List Share) → IsTally old.mill d shares old.kept.tally → AllKept (old_share_rules old.mill old.kept.path (unsigned_abs d) shares ns)) → ((shares : List Share) → IsTally old.mill d shares old.kept.tally → IsTally old.mill d (shares ++ share_of_old ns ∷ []) new.kept.tally)
+      → new.kept.phase ≡ old.kept.phase → new.kept.version ≡ old.kept.version → new.kept.points ≡ old.kept.points → new.kept.path ≡ old.kept.path → GoesOn old new (lines.COld ns)
+  cold_goes ns kept tally phase v ps path state h =
+      let s = spread state h in
+      subst (λ x. AllKept (line_rules old.mill old.wanted x (lines.COld ns)) × Keeps old.mill new.kept (line_next old.mill old.wanted x (lines.COld ns))) (sym s.is)
+      (kept s.shares s.tally, to_spread phase v ps path (s.shares ++ share_of_old ns ∷ []) (tally s.shares s.tally))
+
+  refused_in_spread : (line : Line) (broken : Why) → ((shares : List Share) → IsTally old.mill d shares old.kept.tally → FirstBroken (line_rules old.mill old.wanted (in_spread shares) line) broken × (broken ≡ why.Column → IsFoundAt old.mill (in_spread shares) line new.bad)) → IsRefused old new line broken
+  refused_in_spread line broken f state h = let s = spread state h in subst (λ x. FirstBroken (line_rules old.mill old.wanted x line) broken × (broken ≡ why.Column → IsFoundAt old.mill x line new.bad)) (sym s.is) (f s.shares s.tally)
+
+  pub cnew_refused : (ns : List ℤ) (broken : Why) → ((shares : List Share) → IsTally old.mill d shares old.kept.tally → FirstBroken (new_share_rules old.mill old.kept.path (unsigned_abs d) shares ns) broken) → IsRefused old new (lines.CNew ns) broken
+  cnew_refused ns broken f = refused_in_spread (lines.CNew ns) broken (λ shares t. (f shares t, no_column old (in_spread shares) (lines.CNew ns) new.bad (new_share_rules old.mill old.kept.path (unsigned_abs d) shares ns) broken (new_share_others old.mill old.kept.path (unsigned_abs d) shares ns) (f shares t)))
+
+  pub cold_refused : (ns : List ℤ) (broken : Why) → ((shares : List Share) → IsTally old.mill d shares old.kept.tally → FirstBroken (old_share_rules old.mill old.kept.path (unsigned_abs d) shares ns) broken) → IsRefused old new (lines.COld ns) broken
+  cold_refused ns broken f = refused_in_spread (lines.COld ns) broken (λ shares t. (f shares t, no_column old (in_spread shares) (lines.COld ns) new.bad (old_share_rules old.mill old.kept.path (unsigned_abs d) shares ns) broken (old_share_others old.mill old.kept.path (unsigned_abs d) shares ns) (f shares t)))
+
+  -- the question after it
+  module _ (line : Line) (other : IsNoShare line) where
+    after_spread : (shares : List Share) → turn old.mill old.wanted (in_spread shares) line ≡ turn_after_shares old.mill spread_goal d shares old.kept.path line
+    after_spread shares = spread_turn old.mill spread_goal d shares old.kept.path line other
+
+    unexpected_after : ((shares : List Share) → IsTally old.mill d shares old.kept.tally → turn_after_shares old.mill spread_goal d shares old.kept.path line ≡ Refused) → IsRefused old new line why.Expect
+    unexpected_after refused = refused_in_spread line why.Expect (λ shares t. (subst (λ x. FirstBroken (rules_of x) why.Expect) (sym (after_spread shares ∙ refused shares t)) (inl (λ x. x, refl)), λ e. cc))
+
+    pub spread_no_share : old.kept.tally.begun ≡ false → IsRefused old new line why.Expect
+    spread_no_share none = unexpected_after (λ shares t. here shares t)
+      where
+        here : (shares : List Share) → IsTally old.mill d shares old.kept.tally → turn_after_shares old.mill spread_goal d shares old.kept.path line ≡ Refused
+        here [] t = refl
+        here (s ∷ shares) t = let e : true ≡ false = sym t.begun ∙ none in cc
+
+    pub spread_no_ask : is_ask line ≡ false → IsRefused old new line why.Expect
+    spread_no_ask no = unexpected_after (λ shares t. here shares)
+      where
+        here : (shares : List Share) → turn_after_shares old.mill spread_goal d shares old.kept.path line ≡ Refused
+        here [] = refl
+        here (s ∷ shares) = no_ask old.mill (InTree spread_goal Begins) (cover_rules old.mill (tree_limits spread_goal) (unsigned_abs d) (s ∷ shares)) old.kept.path line no
+
+    module _ (begun : old.kept.tally.begun ≡ true) (asks : is_ask line ≡ true) where
+      abbrev asking : Turn
+      asking = turn_to_ask old.mill (InTree spread_goal Begins) [] old.kept.path line
+
+      asked_after : (shares : List Share) → IsTally old.mill d shares old.kept.tally → turn old.mill old.wanted (in_spread shares) line ≡ with_rules (cover_rules old.mill (tree_limits spread_goal) (unsigned_abs d) shares) asking
+      asked_after [] t = let e : false ≡ true = sym t.begun ∙ begun in cc
+      asked_after (s ∷ shares) t = after_spread (s ∷ shares) ∙ ask_before old.mill (InTree spread_goal Begins) (cover_rules old.mill (tree_limits spread_goal) (unsigned_abs d) (s ∷ shares)) old.kept.path line asks
+
+      pub cover_refused : (broken : Why) → ((shares : List Share) → IsTally old.mill d shares old.kept.tally → FirstBroken (cover_rules old.mill (tree_limits spread_goal) (unsigned_abs d) shares) broken) → IsRefused old new line broken
+      cover_refused broken f = refused_in_spread line broken (λ shares t. (
+        subst (λ x. FirstBroken (rules_of x) broken) (sym (asked_after shares t)) (before_broken (cover_rules old.mill (tree_limits spread_goal) (unsigned_abs d) shares) asking broken (ask_taken old.mill (InTree spread_goal Begins) old.kept.path line asks) (f shares t)),
+        no_column old (in_spread shares) line new.bad (cover_rules old.mill (tree_limits spread_goal) (unsigned_abs d) shares) broken ((λ e. cc), (λ e. cc), (λ e. cc), tt) (f shares t)
+      ))
+
+      module _ (covers : (shares : List Share) → IsTally old.mill d shares old.kept.tally → AllKept (cover_rules old.mill (tree_limits spread_goal) (unsigned_abs d) shares)) where
+        pub covered_refused : (broken : Why) → IsNotAsked old.mill old.kept.path line broken → IsRefused old new line broken
+        covered_refused broken f = refused_in_spread line broken (λ shares t. (
+          subst (λ x. FirstBroken (rules_of x) broken) (sym (asked_after shares t)) (after_broken (cover_rules old.mill (tree_limits spread_goal) (unsigned_abs d) shares) asking broken (covers shares t) (f (InTree spread_goal Begins))),
+          no_column old (in_spread shares) line new.bad (rules_of asking) broken (ask_others old.mill (InTree spread_goal Begins) old.kept.path line) (f (InTree spread_goal Begins))
+        ))
+
+        pub covered_goes : IsAsked old.mill old.kept.path new.kept.path line → Keeps old.mill new.kept (InTree spread_goal Begins new.kept.path) → GoesOn old new line
+        covered_goes asked keeps state h =
+            let s = spread state h in
+            let both = with_back (cover_rules old.mill (tree_limits spread_goal) (unsigned_abs d) s.shares) asking (covers s.shares s.tally) (asked.kept (InTree spread_goal Begins)) in
+            let is : turn old.mill old.wanted state line ≡ with_rules (cover_rules old.mill (tree_limits spread_goal) (unsigned_abs d) s.shares) asking = ap (λ x. turn old.mill old.wanted x line) s.is ∙ asked_after s.shares s.tally in
+            (subst (λ t. AllKept (rules_of t)) (sym is) both.0,
+             subst (λ t. Keeps old.mill new.kept (next_of state t)) (sym is) (subst (λ x. Keeps old.mill new.kept x) (sym (both.1 state state ∙ asked.next_is (InTree spread_goal Begins) state)) keeps))
+
+-- ---- in the open tree
+
+abbrev pub IsNoOpen : Line → Type 0
+IsNoOpen lines.Header = Unit {0}
+IsNoOpen lines.Header2 = Unit {0}
+IsNoOpen (lines.Point ns) = Unit {0}
+IsNoOpen (lines.New ns) = Unit {0}
+IsNoOpen (lines.Old ns) = Unit {0}
+IsNoOpen (lines.Pair ns) = Unit {0}
+IsNoOpen (lines.Put ns) = Unit {0}
+IsNoOpen (lines.Leaf ns) = Unit {0}
+IsNoOpen lines.Done = Unit {0}
+IsNoOpen lines.Cut = Unit {0}
+IsNoOpen lines.Open = ⊥
+IsNoOpen lines.Bare = Unit {0}
+IsNoOpen lines.Plain = Unit {0}
+IsNoOpen (lines.Spread ns) = Unit {0}
+IsNoOpen (lines.CNew ns) = Unit {0}
+IsNoOpen (lines.COld ns) = Unit {0}
+
+open_turn : (m : Mill) (points : List Sums) (path : List Decision) (line : Line) → IsNoOpen line → turn_in_open_tree m points path line ≡ turn_to_ask m (InOpenTree points) [] path line
+open_turn m points path lines.Header h = refl
+open_turn m points path lines.Header2 h = refl
+open_turn m points path (lines.Point ns) h = refl
+open_turn m points path (lines.New ns) h = refl
+open_turn m points path (lines.Old ns) h = refl
+open_turn m points path (lines.Pair ns) h = refl
+open_turn m points path (lines.Put ns) h = refl
+open_turn m points path (lines.Leaf ns) h = refl
+open_turn m points path lines.Done h = refl
+open_turn m points path lines.Cut h = refl
+open_turn m points path lines.Open h = absurd h
+open_turn m points path lines.Bare h = refl
+open_turn m points path lines.Plain h = refl
+open_turn m points path (lines.Spread ns) h = refl
+open_turn m points path (lines.CNew ns) h = refl
+open_turn m points path (lines.COld ns) h = refl
+
+module _ (old new : Machine) (at : old.kept.phase ≡ phases.Open) where
+  abbrev open_points : List Sums
+  open_points = reverse old.kept.points
+
+  in_open : (state : State) → Keeps old.mill old.kept state → state ≡ InOpenTree open_points old.kept.path
+  in_open state h = open_state old.mill old.kept state h at
+
+  abbrev after_open : State
+  after_open = branch_or (Ended Unfinished open_points) (InOpenTree open_points) (next_branch old.kept.path)
+
+  pub to_open_branch : new.kept.points ≡ old.kept.points → new.kept.phase ≡ phases.Open → next_branch old.kept.path ≡ Some new.kept.path → Keeps old.mill new.kept after_open
+  to_open_branch ps phase e = subst (λ o. Keeps old.mill new.kept (branch_or (Ended Unfinished open_points) (InOpenTree open_points) o)) (sym e) (phase, ap reverse ps, refl)
+
+  pub to_unfinished : new.kept.points ≡ old.kept.points → new.kept.phase ≡ phases.Unfinished → next_branch old.kept.path ≡ None → Keeps old.mill new.kept after_open
+  to_unfinished ps phase e = subst (λ o. Keeps old.mill new.kept (branch_or (Ended Unfinished open_points) (InOpenTree open_points) o)) (sym e) (phase, ap reverse ps)
+
+  pub open_goes : Keeps old.mill new.kept after_open → GoesOn old new lines.Open
+  open_goes keeps = goes_at old new lines.Open (InOpenTree open_points old.kept.path) in_open tt keeps
+
+  pub open_ask_goes : (line : Line) → IsNoOpen line → IsAsked old.mill old.kept.path new.kept.path line → new.kept.points ≡ old.kept.points → new.kept.phase ≡ old.kept.phase → GoesOn old new line
+  open_ask_goes line no_open asked ps phase = ask_goes old new line (InOpenTree open_points old.kept.path) in_open (InOpenTree open_points) (open_turn old.mill open_points old.kept.path line no_open) asked (phase ∙ at, ap reverse ps, refl)
+
+  pub open_ask_refused : (line : Line) (broken : Why) → IsNoOpen line → IsNotAsked old.mill old.kept.path line broken → IsRefused old new line broken
+  open_ask_refused line broken no_open = ask_refused old new line (InOpenTree open_points old.kept.path) in_open (InOpenTree open_points) (open_turn old.mill open_points old.kept.path line no_open) broken
+
+-- ---- the end
+
+pub ended_refused : (old new : Machine) (line : Line) → (old.kept.phase ≡ phases.Proved) ⊎ (old.kept.phase ≡ phases.Unfinished) → IsRefused old new line why.Expect
+ended_refused old new line at = elim at [
+  | inl p ↦ unexpected_at old new line (Ended Proved (reverse old.kept.points)) (λ state h. proved_state old.mill old.kept state h p) refl
+  | inr p ↦ unexpected_at old new line (Ended Unfinished (reverse old.kept.points)) (λ state h. unfinished_state old.mill old.kept state h p) refl
+]
