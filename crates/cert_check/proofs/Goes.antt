@@ -33,6 +33,7 @@ use Rattle.cert_slabs.specs.Tallies.{Tally, IsTally}
 use Rattle.cert_check.specs.declared.phase.Phase.{Phase}
 use Rattle.cert_check.specs.declared.phase.Phase.TheVariants as phases
 use Rattle.cert_check.specs.Kept.{Kept, Keeps, is_rest, owner_of}
+use Rattle.cert_check.specs.Lines.{can_begin, IsNoSlab, IsNoLeaf, IsNoShare, IsNoOpen, is_ask, IsAsked, IsNotAsked}
 use Rattle.cert_check.specs.Verdicts.{path_of}
 use Rattle.cert_check.specs.Readings.{Machine, GoesOn, IsRefused, IsFoundAt}
 use Rattle.cert_check.proofs.States.{goal_of, begin_state, between_state, IsPlanState, plan_state, tree_state, question_state, IsSpreadState, spread_state, open_state, proved_state, unfinished_state}
@@ -129,25 +130,6 @@ module _ (old new : Machine) (at : old.kept.phase ≡ phases.Between) where
 
 -- ---- in a plan
 
--- not a slab's line
-abbrev pub IsNoSlab : Line → Type 0
-IsNoSlab lines.Header = Unit {0}
-IsNoSlab lines.Header2 = Unit {0}
-IsNoSlab (lines.Point ns) = Unit {0}
-IsNoSlab (lines.New ns) = ⊥
-IsNoSlab (lines.Old ns) = ⊥
-IsNoSlab (lines.Pair ns) = Unit {0}
-IsNoSlab (lines.Put ns) = Unit {0}
-IsNoSlab (lines.Leaf ns) = Unit {0}
-IsNoSlab lines.Done = Unit {0}
-IsNoSlab lines.Cut = Unit {0}
-IsNoSlab lines.Open = Unit {0}
-IsNoSlab lines.Bare = Unit {0}
-IsNoSlab lines.Plain = Unit {0}
-IsNoSlab (lines.Spread ns) = Unit {0}
-IsNoSlab (lines.CNew ns) = Unit {0}
-IsNoSlab (lines.COld ns) = Unit {0}
-
 plan_turn : (m : Mill) (version : Version) (before : List Sums) (sums : Sums) (slabs : List Column) (line : Line) → IsNoSlab line → turn_in_plan m version before sums slabs line ≡ with_rules (plan_rules m sums slabs) (turn_at_start m (record { version = version; owner = OfPoint; points = sums ∷ before }) version [] line)
 plan_turn m version before sums slabs lines.Header h = refl
 plan_turn m version before sums slabs lines.Header2 h = refl
@@ -205,41 +187,6 @@ module _ (old new : Machine) (at : old.kept.phase ≡ phases.Plan) where
   old_refused ns broken f = refused_in_plan (lines.Old ns) broken (λ state s. (f s.slabs s.draft, no_column old (in_plan state s) (lines.Old ns) new.bad (old_rules old.mill s.slabs ns) broken (old_others old.mill s.slabs ns) (f s.slabs s.draft)))
 
 -- ---- the line after a plan
-
--- a line that can begin a tree
-abbrev pub can_begin : Version → Line → Bool
-can_begin One lines.Header = false
-can_begin One lines.Header2 = false
-can_begin One (lines.Point ns) = false
-can_begin One (lines.New ns) = false
-can_begin One (lines.Old ns) = false
-can_begin One (lines.Pair ns) = true
-can_begin One (lines.Put ns) = true
-can_begin One (lines.Leaf ns) = true
-can_begin One lines.Done = false
-can_begin One lines.Cut = false
-can_begin One lines.Open = false
-can_begin One lines.Bare = false
-can_begin One lines.Plain = false
-can_begin One (lines.Spread ns) = false
-can_begin One (lines.CNew ns) = false
-can_begin One (lines.COld ns) = false
-can_begin Two lines.Header = false
-can_begin Two lines.Header2 = false
-can_begin Two (lines.Point ns) = false
-can_begin Two (lines.New ns) = false
-can_begin Two (lines.Old ns) = false
-can_begin Two (lines.Pair ns) = false
-can_begin Two (lines.Put ns) = false
-can_begin Two (lines.Leaf ns) = true
-can_begin Two lines.Done = false
-can_begin Two lines.Cut = false
-can_begin Two lines.Open = false
-can_begin Two lines.Bare = true
-can_begin Two lines.Plain = true
-can_begin Two (lines.Spread ns) = true
-can_begin Two (lines.CNew ns) = false
-can_begin Two (lines.COld ns) = false
 
 pub cannot_begin : (m : Mill) (goal : Goal) (version : Version) (path : List Decision) (line : Line) → can_begin version line ≡ false → turn_at_start m goal version path line ≡ Refused
 cannot_begin m goal One path lines.Header h = refl
@@ -383,24 +330,6 @@ module _ (old mid new : Machine) (line : Line) (at : old.kept.phase ≡ phases.P
 
 -- ---- questions
 
-abbrev pub is_ask : Line → Bool
-is_ask lines.Header = false
-is_ask lines.Header2 = false
-is_ask (lines.Point ns) = false
-is_ask (lines.New ns) = false
-is_ask (lines.Old ns) = false
-is_ask (lines.Pair ns) = true
-is_ask (lines.Put ns) = true
-is_ask (lines.Leaf ns) = false
-is_ask lines.Done = false
-is_ask lines.Cut = false
-is_ask lines.Open = false
-is_ask lines.Bare = false
-is_ask lines.Plain = false
-is_ask (lines.Spread ns) = false
-is_ask (lines.CNew ns) = false
-is_ask (lines.COld ns) = false
-
 no_ask : (m : Mill) (at : List Decision → State) (before : List Rule) (path : List Decision) (line : Line) → is_ask line ≡ false → turn_to_ask m at before path line ≡ Refused
 no_ask m at before path lines.Header h = refl
 no_ask m at before path lines.Header2 h = refl
@@ -474,14 +403,6 @@ ask_taken m at path (lines.Spread ns) h = cc
 ask_taken m at path (lines.CNew ns) h = cc
 ask_taken m at path (lines.COld ns) h = cc
 
--- what a question's line does to the path
-pub record IsAsked (m : Mill) (path next : List Decision) (line : Line) : Type 0 where
-  pub kept : (at : List Decision → State) → AllKept (rules_of (turn_to_ask m at [] path line))
-  pub next_is : (at : List Decision → State) (state : State) → next_of state (turn_to_ask m at [] path line) ≡ at next
-
-abbrev pub IsNotAsked : Mill → List Decision → Line → Why → Type 0
-IsNotAsked m path line broken = (at : List Decision → State) → FirstBroken (rules_of (turn_to_ask m at [] path line)) broken
-
 module _ (old new : Machine) (line : Line) (here : State) (only : (state : State) → Keeps old.mill old.kept state → state ≡ here) (at : List Decision → State) (is : turn old.mill old.wanted here line ≡ turn_to_ask old.mill at [] old.kept.path line) where
   pub ask_goes : IsAsked old.mill old.kept.path new.kept.path line → Keeps old.mill new.kept (at new.kept.path) → GoesOn old new line
   ask_goes asked keeps = goes_at old new line here only
@@ -502,24 +423,6 @@ rest_is true = refl
 leaf_turn : (m : Mill) (goal : Goal) (version : Version) (path : List Decision) (ns : List ℤ) → turn_at_start m goal version path (lines.Leaf ns) ≡ turn_to_leaf m goal path ns
 leaf_turn m goal One path ns = refl
 leaf_turn m goal Two path ns = refl
-
-abbrev pub IsNoLeaf : Line → Type 0
-IsNoLeaf lines.Header = Unit {0}
-IsNoLeaf lines.Header2 = Unit {0}
-IsNoLeaf (lines.Point ns) = Unit {0}
-IsNoLeaf (lines.New ns) = Unit {0}
-IsNoLeaf (lines.Old ns) = Unit {0}
-IsNoLeaf (lines.Pair ns) = Unit {0}
-IsNoLeaf (lines.Put ns) = Unit {0}
-IsNoLeaf (lines.Leaf ns) = ⊥
-IsNoLeaf lines.Done = Unit {0}
-IsNoLeaf lines.Cut = Unit {0}
-IsNoLeaf lines.Open = Unit {0}
-IsNoLeaf lines.Bare = Unit {0}
-IsNoLeaf lines.Plain = Unit {0}
-IsNoLeaf (lines.Spread ns) = Unit {0}
-IsNoLeaf (lines.CNew ns) = Unit {0}
-IsNoLeaf (lines.COld ns) = Unit {0}
 
 unmarked_turn : (m : Mill) (goal : Goal) (path : List Decision) (line : Line) → IsNoLeaf line → turn_at_start m goal One path line ≡ turn_to_ask m (InTree goal Begins) [] path line
 unmarked_turn m goal path lines.Header h = refl
@@ -628,24 +531,6 @@ module _ (old new : Machine) (rest : Bool) where
     question_refused line broken = ask_refused old new line (InTree goal Marked old.kept.path) in_question (InTree goal Begins) refl broken
 
 -- ---- in a spread
-
-abbrev pub IsNoShare : Line → Type 0
-IsNoShare lines.Header = Unit {0}
-IsNoShare lines.Header2 = Unit {0}
-IsNoShare (lines.Point ns) = Unit {0}
-IsNoShare (lines.New ns) = Unit {0}
-IsNoShare (lines.Old ns) = Unit {0}
-IsNoShare (lines.Pair ns) = Unit {0}
-IsNoShare (lines.Put ns) = Unit {0}
-IsNoShare (lines.Leaf ns) = Unit {0}
-IsNoShare lines.Done = Unit {0}
-IsNoShare lines.Cut = Unit {0}
-IsNoShare lines.Open = Unit {0}
-IsNoShare lines.Bare = Unit {0}
-IsNoShare lines.Plain = Unit {0}
-IsNoShare (lines.Spread ns) = Unit {0}
-IsNoShare (lines.CNew ns) = ⊥
-IsNoShare (lines.COld ns) = ⊥
 
 spread_turn : (m : Mill) (goal : Goal) (d : ℤ) (shares : List Share) (path : List Decision) (line : Line) → IsNoShare line → turn_in_spread m goal d shares path line ≡ turn_after_shares m goal d shares path line
 spread_turn m goal d shares path lines.Header h = refl
@@ -766,24 +651,6 @@ module _ (old new : Machine) (rest : Bool) (at : old.kept.phase ≡ phases.Sprea
              subst (λ t. Keeps old.mill new.kept (next_of state t)) (sym is) (subst (λ x. Keeps old.mill new.kept x) (sym (both.1 state state ∙ asked.next_is (InTree spread_goal Begins) state)) keeps))
 
 -- ---- in the open tree
-
-abbrev pub IsNoOpen : Line → Type 0
-IsNoOpen lines.Header = Unit {0}
-IsNoOpen lines.Header2 = Unit {0}
-IsNoOpen (lines.Point ns) = Unit {0}
-IsNoOpen (lines.New ns) = Unit {0}
-IsNoOpen (lines.Old ns) = Unit {0}
-IsNoOpen (lines.Pair ns) = Unit {0}
-IsNoOpen (lines.Put ns) = Unit {0}
-IsNoOpen (lines.Leaf ns) = Unit {0}
-IsNoOpen lines.Done = Unit {0}
-IsNoOpen lines.Cut = Unit {0}
-IsNoOpen lines.Open = ⊥
-IsNoOpen lines.Bare = Unit {0}
-IsNoOpen lines.Plain = Unit {0}
-IsNoOpen (lines.Spread ns) = Unit {0}
-IsNoOpen (lines.CNew ns) = Unit {0}
-IsNoOpen (lines.COld ns) = Unit {0}
 
 open_turn : (m : Mill) (points : List Sums) (path : List Decision) (line : Line) → IsNoOpen line → turn_in_open_tree m points path line ≡ turn_to_ask m (InOpenTree points) [] path line
 open_turn m points path lines.Header h = refl

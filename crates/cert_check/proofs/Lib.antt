@@ -1,3 +1,4 @@
+mod States
+mod Goes
 pub mod Readings
 pub mod HeldLines
-pub mod Stub

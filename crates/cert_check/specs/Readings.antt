@@ -122,6 +122,16 @@ IsFoundAt m state line (Some c) = (numbers : List ℤ) × (line ≡ lines.Leaf n
 abbrev pub IsRefused : Machine → Machine → Line → Why → Type 0
 IsRefused old new line broken = (state : State) → Keeps old.mill old.kept state → FirstBroken (line_rules old.mill old.wanted state line) broken × (broken ≡ why.Column → IsFoundAt old.mill state line new.bad)
 
+-- what has become of a line
+abbrev pub IsTurn : Machine → Machine → Line → Result (Unit {0}) Why → Type 0
+IsTurn old new line (Ok done) = GoesOn old new line
+IsTurn old new line (Err broken) = IsRefused old new line broken
+
+-- the mill stays, and what is wanted
+pub record IsSameReader (old new : Machine) : Type 0 where
+  pub mill : new.mill ≡ old.mill
+  pub wanted : new.wanted ≡ old.wanted
+
 -- a held line that is bad: it can't be read, or it breaks a rule
 pub record IsBadHeld (old : Machine) (held : List ℕ) (broken : LineWhy) : Type 0 where
   pub whole : IsWhole held

@@ -11,6 +11,8 @@ mod machine;
 mod phase;
 mod points;
 mod reader;
+mod spread;
+mod staircase;
 mod tree;
 mod verdict;
 mod whole;

@@ -1,81 +1,342 @@
 //! The line machine: a line after another, and what can stand next.
-ghost use Rattle.std.specs.Prelude.{◌≡◌, ◌⊎◌, ◌↔◌, [], IfOk, IfErr, IsTrue, OnErr, OnOk};
+ghost use Rattle.std.specs.Prelude.{◌≡◌, [], true, false, IfOk, IsSome, Some, if◌then◌else◌};
+ghost use Rattle.cert_check.specs.Machines.{IsFitted};
+ghost use Rattle.cert_view.specs.declared.line.Line.TheVariants as lines;
 ghost use Rattle.cert_view.specs.Text.{IsLine};
+ghost use Rattle.cert_rules.specs.States.State.{Begin};
 ghost use Rattle.cert_check.specs.declared.phase.Phase.TheVariants as phases;
+ghost use Rattle.cert_check.specs.Kept.{Keeps};
+ghost use Rattle.cert_check.specs.Lines.{IsNoSlab, IsNoLeaf, IsNoShare};
+ghost use Rattle.cert_check.specs.Readings.{IsTurn, IsSameReader, wanted_of};
 
-use crate::{LineWhy, Points};
-use cert_view::Line;
-use mill_model::Mill;
+use crate::Points;
+use crate::phase::Phase;
+use crate::staircase::Staircase;
+use crate::spread::{new_share, old_share};
+use crate::tree::{ask_line, can_begin, is_ask, leaf_line};
+use cert_rules::Why;
+use cert_slabs::{Draft, Roster, Tally};
+use cert_view::{Line, Nums};
+use mill_model::{Kind, Mill, Version};
+use price_check::Path;
 use std::alloc::{AllocError, Global};
-use std::marker::Model;
 
-/// What is kept between lines. (The body of each function is still to be written.)
+/// What is kept between lines.
 #[derive(Drop)]
 pub(crate) struct Machine<'m> {
     mill: &'m Mill,
     cuts: bool,
-    points: Points,
-}
-
-impl<'m> Model for Machine<'m> {
-    ghost use Rattle.std.specs.Prelude.{[], pos};
-    ghost use Rattle.mill_model.specs.declared.version.Version.TheVariants.{One};
-    ghost use Rattle.cert_check.specs.declared.phase.Phase.TheVariants as phases;
-    ghost use Rattle.cert_check.specs.Readings.{Machine, wanted_of};
-
-    ghost Value = { Machine };
-
-    ghost view = { λ c. record {
-        mill = c.mill.now;
-        wanted = wanted_of c.cuts;
-        kept = record {
-            version = One; points = c.points; phase = phases.Begin; draft = record { kinds = []; placed = [] };
-            tally = record { d = pos 1; count = 0; covered = []; used = []; lost = 0; opened = 0 }; path = []
-        }
-    } };
-
-    ghost use Rattle.cert_check.specs.Stub.{NotWritten};
-
-    ghost invariant = { λ c. NotWritten };
+    version: Version,
+    phase: Phase,
+    points: Staircase,
+    draft: Draft,
+    tally: Tally,
+    path: Path,
+    roster: Roster,
+    ghost fitted: { IsFitted mill.now draft tally path },
 }
 
 impl<'m> Machine<'m> {
-    ghost use Rattle.cert_rules.specs.States.State.{Begin};
-    ghost use Rattle.cert_check.specs.Kept.{Keeps};
-    ghost use Rattle.cert_check.specs.Readings.{GoesOn, IsRefused, wanted_of};
+    ghost use Rattle.cert_check.specs.Seen.{seen};
 
     // A machine before the first line, with all the memory that it ever takes.
     pub(crate) fn new(alloc: Global, mill: &'m Mill, cuts: bool) -> Result<Machine<'m>, AllocError>
-        ensures keeps { IfOk result (λ c. Keeps mill.now c.kept Begin) }
-        ensures mill { IfOk result (λ c. c.mill ≡ mill.now) }
-        ensures wanted { IfOk result (λ c. c.wanted ≡ wanted_of cuts) }
+        ensures keeps { IfOk result (λ c. Keeps mill.now (seen c).kept Begin) }
+        ensures mill { IfOk result (λ c. (seen c).mill ≡ mill.now) }
+        ensures wanted { IfOk result (λ c. (seen c).wanted ≡ wanted_of cuts) }
     {
-        let _alloc = alloc;
-        let _mill = mill;
-        let _cuts = cuts;
-        Err(AllocError)
+        let points = Staircase::new(alloc)?;
+        let draft = Draft::new(alloc, mill)?;
+        let tally = Tally::new(alloc, mill)?;
+        let path = Path::new(alloc, mill)?;
+        let roster = Roster::new(alloc)?;
+        Ok(Machine {
+            mill,
+            cuts,
+            version: Version::One,
+            phase: Phase::Begin,
+            points,
+            draft,
+            tally,
+            path,
+            roster,
+        })
     }
 
-    // Whether the text has ended.
-    #[tactic(auto, using(crate::proofs::Stub::not_written))]
-    pub(crate) fn has_ended(&self) -> bool
-        ensures { IsTrue result ↔ ((self.now.kept.phase ≡ phases.Proved) ⊎ (self.now.kept.phase ≡ phases.Unfinished)) }
+    // What can stand next.
+    pub(crate) fn phase(&self) -> Phase
+        ensures { result ≡ (seen self.now).kept.phase }
     {
-        let _mill = self.mill;
-        unreachable!()
+        self.phase
+    }
+
+    // The points so far.
+    pub(crate) fn into_points(self) -> Points
+        ensures { result ≡ (seen self.entry).kept.points }
+    {
+        self.points.into_points()
+    }
+
+    // The column that the leaf exceeds that was tested last.
+    pub(crate) fn bad_column(&self) -> (Kind, &[u16])
+        requires { IsSome (seen self.now).bad }
+        ensures { (seen self.now).bad ≡ Some (record { kind = result.0; orders = result.1.now }) }
+    {
+        self.path.bad_column()
     }
 
     // Takes a line: it keeps its rules, or this is the first one that it breaks.
-    #[tactic(auto, using(crate::proofs::Stub::not_written))]
-    pub(crate) fn line(&mut self, line: &Line<'_>) -> Result<(), LineWhy>
+    pub(crate) fn line(&mut self, line: &Line<'_>) -> Result<(), Why>
         requires { IsLine line.now }
-        ensures good { OnOk result (GoesOn self.old self.new line.now) }
-        ensures bad { IfErr result (IsRefused self.old line.now) }
-        ensures mill { self.new.mill ≡ self.old.mill }
-        ensures wanted { self.new.wanted ≡ self.old.wanted }
+        ensures turn { IsTurn (seen self.old) (seen self.new) line.now result }
+        ensures same { IsSameReader (seen self.old) (seen self.new) }
     {
-        let _mill = self.mill;
-        let _line = line;
-        unreachable!()
+        match self.phase {
+            Phase::Begin => self.header(line),
+            Phase::Between => self.between(line),
+            Phase::Plan => self.in_plan(line),
+            Phase::Tree(rest) => self.in_tree(rest, line),
+            Phase::Question(rest) => self.question(rest, line),
+            Phase::Spread(rest) => self.in_spread(rest, line),
+            Phase::Open => self.in_open_tree(line),
+            Phase::Proved => Err(Why::Expect),
+            Phase::Unfinished => Err(Why::Expect),
+        }
     }
+
+    // The first line is a header.
+    fn header(&mut self, line: &Line<'_>) -> Result<(), Why>
+        requires { self.old.phase ≡ phases.Begin }
+        ensures turn { IsTurn (seen self.old) (seen self.new) line.now result }
+        ensures same { IsSameReader (seen self.old) (seen self.new) }
+    {
+        match line {
+            Line::Header => {
+                self.version = Version::One;
+                self.phase = Phase::Between;
+                Ok(())
+            }
+            Line::Header2 => {
+                self.version = Version::Two;
+                self.phase = Phase::Between;
+                Ok(())
+            }
+            _ => Err(Why::Expect),
+        }
+    }
+
+    // A point follows, or how the certificate ends.
+    fn between(&mut self, line: &Line<'_>) -> Result<(), Why>
+        requires phase { self.old.phase ≡ phases.Between }
+        requires line { IsLine line.now }
+        ensures turn { IsTurn (seen self.old) (seen self.new) line.now result }
+        ensures same { IsSameReader (seen self.old) (seen self.new) }
+    {
+        match line {
+            Line::Point(numbers) => match self.points.add(numbers) {
+                Err(why) => Err(why),
+                Ok(()) => {
+                    self.draft.clear();
+                    self.phase = Phase::Plan;
+                    Ok(())
+                }
+            },
+            Line::Done => {
+                if self.cuts {
+                    return Err(Why::Expect);
+                }
+                self.phase = Phase::Tree(true);
+                Ok(())
+            }
+            Line::Cut => {
+                self.phase = Phase::Open;
+                Ok(())
+            }
+            _ => Err(Why::Expect),
+        }
+    }
+
+    // A slab follows, or the first line of the point's tree.
+    fn in_plan(&mut self, line: &Line<'_>) -> Result<(), Why>
+        requires phase { self.old.phase ≡ phases.Plan }
+        requires line { IsLine line.now }
+        ensures turn { IsTurn (seen self.old) (seen self.new) line.now result }
+        ensures same { IsSameReader (seen self.old) (seen self.new) }
+    {
+        match line {
+            Line::New(numbers) => self.draft.new_slab(self.mill, &mut self.roster, numbers),
+            Line::Old(numbers) => self.draft.old_slab(self.mill, &mut self.roster, numbers),
+            _ => self.end_plan(line),
+        }
+    }
+
+    // The first line of a point's tree, before which its plan ends.
+    fn end_plan(&mut self, line: &Line<'_>) -> Result<(), Why>
+        requires phase { self.old.phase ≡ phases.Plan }
+        requires line { IsLine line.now }
+        requires other { IsNoSlab line.now }
+        ensures turn { IsTurn (seen self.old) (seen self.new) line.now result }
+        ensures same { IsSameReader (seen self.old) (seen self.new) }
+    {
+        if !can_begin(self.version, line) {
+            return Err(Why::Expect);
+        }
+        // A plan is that of the latest point.
+        let Some(sums) = self.points.latest() else {
+            return Err(Why::Expect);
+        };
+        match self.draft.test_plan(self.mill, sums) {
+            Err(why) => Err(why),
+            Ok(()) => {
+                self.phase = Phase::Tree(false);
+                self.in_tree(false, line)
+            }
+        }
+    }
+
+    // A tree begins.
+    fn in_tree(&mut self, rest: bool, line: &Line<'_>) -> Result<(), Why>
+        requires phase { self.old.phase ≡ phases.Tree rest }
+        requires line { IsLine line.now }
+        ensures turn { IsTurn (seen self.old) (seen self.new) line.now result }
+        ensures same { IsSameReader (seen self.old) (seen self.new) }
+    {
+        match line {
+            Line::Leaf(numbers) => self.leaf(rest, numbers),
+            _ => match self.version {
+                Version::One => ask_line(self.mill, &mut self.path, line),
+                Version::Two => self.mark(rest, line),
+            },
+        }
+    }
+
+    // A leaf, after which the next branch begins or the tree has ended.
+    fn leaf(&mut self, rest: bool, numbers: &Nums<'_>) -> Result<(), Why>
+        requires phase { self.old.phase ≡ phases.Tree rest }
+        ensures turn { IsTurn (seen self.old) (seen self.new) (lines.Leaf numbers.now) result }
+        ensures same { IsSameReader (seen self.old) (seen self.new) }
+    {
+        let limits = self.points.limits(rest);
+        match leaf_line(self.mill, limits, &mut self.path, numbers) {
+            Err(why) => Err(why),
+            Ok(()) => {
+                if !self.path.next_branch() {
+                    self.phase = after_tree(rest);
+                }
+                Ok(())
+            }
+        }
+    }
+
+    // The mark of a question, or its first line.
+    fn mark(&mut self, rest: bool, line: &Line<'_>) -> Result<(), Why>
+        requires phase { self.old.phase ≡ phases.Tree rest }
+        requires version { self.old.version ≡ Version.Two }
+        requires line { IsLine line.now }
+        requires other { IsNoLeaf line.now }
+        ensures turn { IsTurn (seen self.old) (seen self.new) line.now result }
+        ensures same { IsSameReader (seen self.old) (seen self.new) }
+    {
+        match line {
+            Line::Bare => {
+                self.phase = Phase::Question(rest);
+                Ok(())
+            }
+            Line::Plain => {
+                self.phase = Phase::Question(rest);
+                Ok(())
+            }
+            Line::Spread(numbers) => match self.tally.start(numbers) {
+                Err(why) => Err(why),
+                Ok(()) => {
+                    self.phase = Phase::Spread(rest);
+                    Ok(())
+                }
+            },
+            _ => Err(Why::Expect),
+        }
+    }
+
+    // The question whose mark was read.
+    fn question(&mut self, rest: bool, line: &Line<'_>) -> Result<(), Why>
+        requires phase { self.old.phase ≡ phases.Question rest }
+        requires line { IsLine line.now }
+        ensures turn { IsTurn (seen self.old) (seen self.new) line.now result }
+        ensures same { IsSameReader (seen self.old) (seen self.new) }
+    {
+        match ask_line(self.mill, &mut self.path, line) {
+            Err(why) => Err(why),
+            Ok(()) => {
+                self.phase = Phase::Tree(rest);
+                Ok(())
+            }
+        }
+    }
+
+    // A share follows, or the question.
+    fn in_spread(&mut self, rest: bool, line: &Line<'_>) -> Result<(), Why>
+        requires phase { self.old.phase ≡ phases.Spread rest }
+        requires line { IsLine line.now }
+        ensures turn { IsTurn (seen self.old) (seen self.new) line.now result }
+        ensures same { IsSameReader (seen self.old) (seen self.new) }
+    {
+        match line {
+            Line::CNew(numbers) => {
+                new_share(self.mill, &self.path, &mut self.tally, &mut self.roster, numbers)
+            }
+            Line::COld(numbers) => {
+                old_share(self.mill, &self.path, &mut self.tally, &mut self.roster, numbers)
+            }
+            _ => self.end_spread(rest, line),
+        }
+    }
+
+    // The question after a spread, before which this ends.
+    fn end_spread(&mut self, rest: bool, line: &Line<'_>) -> Result<(), Why>
+        requires phase { self.old.phase ≡ phases.Spread rest }
+        requires line { IsLine line.now }
+        requires other { IsNoShare line.now }
+        ensures turn { IsTurn (seen self.old) (seen self.new) line.now result }
+        ensures same { IsSameReader (seen self.old) (seen self.new) }
+    {
+        if !self.tally.has_begun() || !is_ask(line) {
+            return Err(Why::Expect);
+        }
+        let limits = self.points.limits(rest);
+        match self.tally.test_cover(limits) {
+            Err(why) => Err(why),
+            Ok(()) => match ask_line(self.mill, &mut self.path, line) {
+                Err(why) => Err(why),
+                Ok(()) => {
+                    self.phase = Phase::Tree(rest);
+                    Ok(())
+                }
+            },
+        }
+    }
+
+    // A line of the open tree.
+    fn in_open_tree(&mut self, line: &Line<'_>) -> Result<(), Why>
+        requires phase { self.old.phase ≡ phases.Open }
+        requires line { IsLine line.now }
+        ensures turn { IsTurn (seen self.old) (seen self.new) line.now result }
+        ensures same { IsSameReader (seen self.old) (seen self.new) }
+    {
+        match line {
+            Line::Open => {
+                if !self.path.next_branch() {
+                    self.phase = Phase::Unfinished;
+                }
+                Ok(())
+            }
+            _ => ask_line(self.mill, &mut self.path, line),
+        }
+    }
+}
+
+// What follows a tree: that of a point, or the one after `done`.
+fn after_tree(rest: bool) -> Phase
+    ensures { result ≡ (if rest then phases.Proved else phases.Between) }
+{
+    if rest { Phase::Proved } else { Phase::Between }
 }

@@ -1,14 +1,55 @@
 //! Lines of a tree against the path: the code that the line machine calls there.
-ghost use Rattle.std.specs.Prelude.{◌≡◌, ◌≤◌, ◌∷◌, true, None, Ok, Err, IfErr, IfOk, OnOk, IfSome, IfNone, length};
+ghost use Rattle.std.specs.Prelude.{◌≡◌, ◌≤◌, ◌∷◌, true, None, Ok, Err, IfErr, IfOk, OnOk, IfSome, IfNone, IsSome, length};
+ghost use Rattle.cert_view.specs.Text.{IsLine};
+ghost use Rattle.price_check.specs.Numbers.{prices_of};
+ghost use Rattle.price_check.specs.Exceeding.{IsExceeding};
+ghost use Rattle.cert_check.specs.Lines.{can_begin, is_ask, IsAsked, IsNotAsked};
 ghost use Rattle.cert_rules.specs.Rules.{AllKept, FirstBroken};
 ghost use Rattle.cert_rules.specs.Questions.{NamesPair, NamesPut, pair_of, put_of, ask_rules};
 ghost use Rattle.cert_rules.specs.Leaves.{leaf_rules};
 ghost use Rattle.cert_check.specs.Whys.{leaf_why};
 
 use cert_rules::Why;
-use cert_view::Nums;
-use mill_model::{Ask, Limits, Mill};
+use cert_view::{Line, Nums};
+use mill_model::{Ask, Limits, Mill, Version};
 use price_check::{Bad, Path};
+
+/// Whether a line can begin a tree.
+pub(crate) fn can_begin(version: Version, line: &Line<'_>) -> bool
+    ensures { result ≡ can_begin version line.now }
+{
+    match version {
+        Version::One => matches!(line, Line::Leaf(_) | Line::Pair(_) | Line::Put(_)),
+        Version::Two => matches!(
+            line,
+            Line::Leaf(_) | Line::Bare | Line::Plain | Line::Spread(_)
+        ),
+    }
+}
+
+/// Whether a line is a question.
+pub(crate) fn is_ask(line: &Line<'_>) -> bool
+    ensures { result ≡ is_ask line.now }
+{
+    matches!(line, Line::Pair(_) | Line::Put(_))
+}
+
+/// Takes a question's line in a tree: the path goes down to its answer yes, or the line breaks a rule.
+pub(crate) fn ask_line(mill: &Mill, path: &mut Path, line: &Line<'_>) -> Result<(), Why>
+    requires line { IsLine line.now }
+    requires orders { path.old.orders ≡ length mill.now.orders }
+    requires slabs { path.old.slabs ≡ length mill.now.yard }
+    ensures good { OnOk result (IsAsked mill.now path.old.decisions path.new.decisions line.now) }
+    ensures bad { IfErr result (IsNotAsked mill.now path.old.decisions line.now) }
+    ensures orders { path.new.orders ≡ path.old.orders }
+    ensures slabs { path.new.slabs ≡ path.old.slabs }
+{
+    match line {
+        Line::Pair(numbers) => pair_line(mill, path, numbers),
+        Line::Put(numbers) => put_line(mill, path, numbers),
+        _ => Err(Why::Expect),
+    }
+}
 
 // The question that the numbers of a `pair` line name, if they name one.
 fn named_pair(orders: usize, numbers: &Nums<'_>) -> Option<Ask>
@@ -34,6 +75,8 @@ pub(crate) fn pair_line(mill: &Mill, path: &mut Path, numbers: &Nums<'_>) -> Res
     ensures good { OnOk result (AllKept (ask_rules (NamesPair (length mill.now.orders) numbers.now) path.old.decisions (pair_of numbers.now))
         × (path.new ≡ record path.old { decisions = (pair_of numbers.now, true) ∷ path.old.decisions; bad = None })) }
     ensures bad { IfErr result (FirstBroken (ask_rules (NamesPair (length mill.now.orders) numbers.now) path.old.decisions (pair_of numbers.now))) }
+    ensures orders { path.new.orders ≡ path.old.orders }
+    ensures slabs { path.new.slabs ≡ path.old.slabs }
 {
     let Some(ask) = named_pair(mill.orders().len(), numbers) else {
         return Err(Why::Ask);
@@ -69,6 +112,8 @@ pub(crate) fn put_line(mill: &Mill, path: &mut Path, numbers: &Nums<'_>) -> Resu
     ensures good { OnOk result (AllKept (ask_rules (NamesPut (length mill.now.orders) (length mill.now.yard) numbers.now) path.old.decisions (put_of numbers.now))
         × (path.new ≡ record path.old { decisions = (put_of numbers.now, true) ∷ path.old.decisions; bad = None })) }
     ensures bad { IfErr result (FirstBroken (ask_rules (NamesPut (length mill.now.orders) (length mill.now.yard) numbers.now) path.old.decisions (put_of numbers.now))) }
+    ensures orders { path.new.orders ≡ path.old.orders }
+    ensures slabs { path.new.slabs ≡ path.old.slabs }
 {
     let Some(ask) = named_put(mill.orders().len(), mill.yard().len(), numbers) else {
         return Err(Why::Ask);
@@ -91,6 +136,8 @@ pub(crate) fn leaf_line(
     ensures good { OnOk result (AllKept (leaf_rules mill.now limits path.old.decisions numbers.now)) }
     ensures bad { IfErr result (FirstBroken (leaf_rules mill.now limits path.old.decisions numbers.now)) }
     ensures path { path.new ≡ record path.old { bad = path.new.bad } }
+    ensures found { result ≡ Err Why.Column → IsSome path.new.bad }
+    ensures exceeds { IfSome path.new.bad (IsExceeding mill.now path.old.decisions (prices_of (length mill.now.orders) numbers.now)) }
 {
     match path.leaf_ok(mill, limits, numbers) {
         Ok(()) => Ok(()),

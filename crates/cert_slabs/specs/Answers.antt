@@ -37,11 +37,18 @@ old_share_front m [] = rule why.Spelling ⊥ ∷ []
 old_share_front m (x ∷ []) = rule why.Spelling ⊥ ∷ []
 old_share_front m (x ∷ s ∷ numbers) = rule why.Range (pos 1 ≤ℤ x) ∷ rule why.Yard (Names (length m.yard) s) ∷ rule why.Place (AreNamed m numbers) ∷ slab_rules m (column_of (share_of_old (x ∷ s ∷ numbers)))
 
--- the share that was read: its column and its multiplier
-pub record IsRead (m : Mill) (share : Share) (times : ℕ) (kind : Kind) (orders : List ℕ) : Type 0 where
-  pub is : share ≡ record { times = pos times; kind = kind; orders = orders }
+abbrev pub share_of : ℕ → Kind → List ℕ → Share
+share_of times kind orders = record { times = pos times; kind = kind; orders = orders }
+
+-- a multiplier, a slab of the mill, and orders by rising number
+pub record IsShare (m : Mill) (times : ℕ) (kind : Kind) (orders : List ℕ) : Type 0 where
   pub low : 1 ≤ times
   pub high : times ≤ 2 ^ 62
   pub stock : IsInStock m kind
   pub rise : Rises 0 (length m.orders) orders
   pub some : 0 < length orders
+
+-- the share of a line that was read
+pub record IsRead (m : Mill) (share : Share) (times : ℕ) (kind : Kind) (orders : List ℕ) : Type 0 where
+  pub is : share ≡ share_of times kind orders
+  pub good : IsShare m times kind orders

@@ -51,7 +51,8 @@ impl Draft {
 
     /// Takes all slabs off.
     pub fn clear(&mut self)
-        ensures { (m : Mill) (slabs : List Column) → IsDraft m slabs self.old → IsDraft m [] self.new }
+        ensures draft { (m : Mill) → length self.old.placed ≡ length m.orders → IsDraft m [] self.new }
+        ensures orders { length self.new.placed ≡ length self.old.placed }
     {
         self.kinds.clear();
         for placed in self.placed.iter_mut() {

@@ -1,13 +1,13 @@
 //! A spread while its shares are read.
 ghost use Rattle.std.specs.Prelude.{◌≡◌, ◌≤◌, ◌<◌, ◌*◌, ◌+◌, ◌^◌, ◌↔◌, ◌++◌, ◌∷◌, [], ℕ, pos, ◌≤ℤ◌, true, List, IfOk, OnOk, IsTrue, IfErr, length, sum, slice_index, unsigned_abs};
 ghost use Rattle.std.specs.Bool.{OnTrue};
-ghost use Rattle.mill_model.specs.Columns.{IsInStock, Rises, has, load};
+ghost use Rattle.mill_model.specs.Columns.{Rises, has};
 ghost use Rattle.mill_model.specs.Shares.{Share};
 ghost use Rattle.mill_model.specs.Limits.{AtMost};
 ghost use Rattle.mill_model.specs.Covers.{times};
 ghost use Rattle.cert_rules.specs.Numbers.{number_at};
 ghost use Rattle.cert_rules.specs.Spreads.{share_of_new, share_of_old, spread_rules, cover_rules};
-ghost use Rattle.cert_slabs.specs.Answers.{Answers, IsRead, new_share_front, old_share_front};
+ghost use Rattle.cert_slabs.specs.Answers.{Answers, IsRead, IsShare, share_of, new_share_front, old_share_front};
 ghost use Rattle.cert_slabs.specs.Tallies.{AreFair, AreWithin, IsAdded, IsFair, IsTally, StayWithin};
 
 use crate::roster::Roster;
@@ -83,17 +83,13 @@ impl Tally {
 
     /// Adds a share, unless an order or a surplus slab is then covered too often.
     pub fn add(&mut self, mill: &Mill, times: u64, kind: Kind, orders: &[u16]) -> bool
-        requires low { 1 ≤ times }
-        requires high { times ≤ 2 ^ 62 }
-        requires rise { Rises 0 (length mill.now.orders) orders.now }
-        requires some { 0 < length orders.now }
-        requires stock { IsInStock mill.now kind }
+        requires share { IsShare mill.now times kind orders.now }
         requires orders { length self.old.covered ≡ length mill.now.orders }
         requires slabs { length self.old.used ≡ length mill.now.yard }
         ensures cover { (shares : List Share) → IsTally mill.now self.old.d shares self.old →
-            (IsTrue result ↔ StayWithin mill.now (unsigned_abs self.old.d) (shares ++ record { times = pos times; kind = kind; orders = orders.now } ∷ []) kind) }
+            (IsTrue result ↔ StayWithin mill.now (unsigned_abs self.old.d) (shares ++ share_of times kind orders.now ∷ []) kind) }
         ensures tally { OnTrue result ((shares : List Share) → IsTally mill.now self.old.d shares self.old →
-            IsTally mill.now self.old.d (shares ++ record { times = pos times; kind = kind; orders = orders.now } ∷ []) self.new) }
+            IsTally mill.now self.old.d (shares ++ share_of times kind orders.now ∷ []) self.new) }
         ensures orders { length self.new.covered ≡ length self.old.covered }
         ensures slabs { length self.new.used ≡ length self.old.used }
     {
