@@ -10,8 +10,6 @@ use Rattle.mill_model.specs.Paths.{next_branch}
 use Rattle.mill_model.specs.Shares.{Share}
 use Rattle.cert_view.specs.declared.line.Line.{Line}
 use Rattle.cert_view.specs.declared.line.Line.TheVariants as lines
-use Rattle.price_check.specs.Numbers.{prices_of}
-use Rattle.price_check.specs.Exceeding.{IsExceeding}
 use Rattle.cert_rules.specs.declared.why.Why.{Why}
 use Rattle.cert_rules.specs.declared.why.Why.TheVariants as why
 use Rattle.cert_rules.specs.Rules.{Rule, AllKept, FirstBroken}
@@ -35,31 +33,8 @@ use Rattle.cert_check.specs.declared.phase.Phase.TheVariants as phases
 use Rattle.cert_check.specs.Kept.{Kept, Keeps, is_rest, owner_of}
 use Rattle.cert_check.specs.Lines.{can_begin, IsNoSlab, IsNoLeaf, IsNoShare, IsNoOpen, is_ask, IsAsked, IsNotAsked}
 use Rattle.cert_check.specs.Verdicts.{path_of}
-use Rattle.cert_check.specs.Readings.{Machine, GoesOn, IsRefused, IsFoundAt}
+use Rattle.cert_check.specs.Readings.{Machine, GoesOn, IsRefused}
 use Rattle.cert_check.proofs.States.{goal_of, begin_state, between_state, IsPlanState, plan_state, tree_state, question_state, IsSpreadState, spread_state, open_state, proved_state, unfinished_state}
-
--- ---- rules that aren't that of columns
-
--- none of the rules has this why
-abbrev pub HaveOther : Why → List Rule → Type 0
-HaveOther broken [] = Unit {0}
-HaveOther broken (r ∷ rules) = (r.why ≡ broken → ⊥) × HaveOther broken rules
-
-pub not_broken : (broken : Why) (rules : List Rule) → HaveOther broken rules → FirstBroken rules broken → ⊥
-not_broken broken [] h f = f
-not_broken broken (r ∷ rules) h f = elim f [
-  | inl x ↦ h.0 x.1
-  | inr x ↦ not_broken broken rules h.1 x.1
-]
-
--- a broken rule of these isn't that of columns
-pub no_column : (old : Machine) (state : State) (line : Line) (bad : Option Column) (rules : List Rule) (broken : Why) → HaveOther why.Column rules → FirstBroken rules broken → broken ≡ why.Column → IsFoundAt old.mill state line bad
-no_column old state line bad rules broken h f e = absurd (not_broken why.Column rules h (subst (λ x. FirstBroken rules x) e f))
-
--- a column is found by the path alone
-same_found : (m : Mill) (s t : State) (line : Line) (bad : Option Column) → path_of s ≡ path_of t → IsFoundAt m s line bad → IsFoundAt m t line bad
-same_found m s t line None e h = h
-same_found m s t line (Some c) e h = (h.0, h.1, subst (λ path. IsExceeding m path (prices_of (length m.orders) h.0) c) e h.2)
 
 -- ---- the state of a phase
 
@@ -73,12 +48,12 @@ module _ (old new : Machine) (line : Line) where
   pub goes_at : (at : State) → ((state : State) → Keeps m k state → state ≡ at) → AllKept (line_rules m old.wanted at line) → Keeps m new.kept (line_next m old.wanted at line) → GoesOn old new line
   goes_at at only kept keeps state h = subst (λ s. AllKept (line_rules m old.wanted s line) × Keeps m new.kept (line_next m old.wanted s line)) (sym (only state h)) (kept, keeps)
 
-  pub refused_at : (at : State) (broken : Why) → ((state : State) → Keeps m k state → state ≡ at) → FirstBroken (line_rules m old.wanted at line) broken → (broken ≡ why.Column → IsFoundAt m at line new.bad) → IsRefused old new line broken
-  refused_at at broken only first found state h = subst (λ s. FirstBroken (line_rules m old.wanted s line) broken × (broken ≡ why.Column → IsFoundAt m s line new.bad)) (sym (only state h)) (first, found)
+  pub refused_at : (at : State) (broken : Why) → ((state : State) → Keeps m k state → state ≡ at) → FirstBroken (line_rules m old.wanted at line) broken → IsRefused old line broken
+  refused_at at broken only first state h = subst (λ s. FirstBroken (line_rules m old.wanted s line) broken) (sym (only state h)) first
 
   -- the line can't stand there
-  pub unexpected_at : (at : State) → ((state : State) → Keeps m k state → state ≡ at) → turn m old.wanted at line ≡ Refused → IsRefused old new line why.Expect
-  unexpected_at at only refused = refused_at at why.Expect only (subst (λ t. FirstBroken (rules_of t) why.Expect) (sym refused) (inl (λ x. x, refl))) (λ e. cc)
+  pub unexpected_at : (at : State) → ((state : State) → Keeps m k state → state ≡ at) → turn m old.wanted at line ≡ Refused → IsRefused old line why.Expect
+  unexpected_at at only refused = refused_at at why.Expect only (subst (λ t. FirstBroken (rules_of t) why.Expect) (sym refused) (inl (λ x. x, refl)))
 
 -- ---- the header
 
@@ -95,7 +70,7 @@ module _ (old new : Machine) (at : old.kept.phase ≡ phases.Begin) where
   pub header2_goes : new.kept.phase ≡ phases.Between → new.kept.version ≡ Two → new.kept.points ≡ old.kept.points → new.kept.path ≡ old.kept.path → GoesOn old new lines.Header2
   header2_goes phase v points path state h = subst (λ s. AllKept (line_rules old.mill old.wanted s lines.Header2) × Keeps old.mill new.kept (line_next old.mill old.wanted s lines.Header2)) (sym (in_begin state h)) (tt, between_from Two phase v points path state h)
 
-  pub begin_unexpected : (line : Line) → turn_at_begin line ≡ Refused → IsRefused old new line why.Expect
+  pub begin_unexpected : (line : Line) → turn_at_begin line ≡ Refused → IsRefused old line why.Expect
   begin_unexpected line = unexpected_at old new line Begin in_begin
 
 -- ---- between points
@@ -113,19 +88,19 @@ module _ (old new : Machine) (at : old.kept.phase ≡ phases.Between) where
   pub point_goes : (ns : List ℤ) → AllKept (point_rules (latest points) ns) → new.kept.phase ≡ phases.Plan → new.kept.version ≡ old.kept.version → reverse new.kept.points ≡ sums_of_line ns ∷ points → new.kept.path ≡ old.kept.path → IsDraft old.mill [] new.kept.draft → GoesOn old new (lines.Point ns)
   point_goes ns kept phase v ps path draft state h = subst (λ s. AllKept (line_rules old.mill old.wanted s (lines.Point ns)) × Keeps old.mill new.kept (line_next old.mill old.wanted s (lines.Point ns))) (sym (in_between state h)) (kept, (phase, v, ps, path ∙ no_path state h, draft))
 
-  pub point_refused : (ns : List ℤ) (broken : Why) → FirstBroken (point_rules (latest points) ns) broken → IsRefused old new (lines.Point ns) broken
-  point_refused ns broken f = refused_at old new (lines.Point ns) (BetweenPoints old.kept.version points) broken in_between f (no_column old (BetweenPoints old.kept.version points) (lines.Point ns) new.bad (point_rules (latest points) ns) broken ((λ e. cc), (λ e. cc), tt) f)
+  pub point_refused : (ns : List ℤ) (broken : Why) → FirstBroken (point_rules (latest points) ns) broken → IsRefused old (lines.Point ns) broken
+  point_refused ns broken f = refused_at old new (lines.Point ns) (BetweenPoints old.kept.version points) broken in_between f
 
   pub done_goes : old.wanted ≡ All → new.kept.phase ≡ phases.Tree true → new.kept.version ≡ old.kept.version → new.kept.points ≡ old.kept.points → new.kept.path ≡ old.kept.path → GoesOn old new lines.Done
   done_goes all phase v ps path state h = subst (λ s. AllKept (line_rules old.mill old.wanted s lines.Done) × Keeps old.mill new.kept (line_next old.mill old.wanted s lines.Done)) (sym (in_between state h)) (subst (λ w. AllKept (line_rules old.mill w (BetweenPoints old.kept.version points) lines.Done) × Keeps old.mill new.kept (line_next old.mill w (BetweenPoints old.kept.version points) lines.Done)) (sym all) (tt, (v, ap reverse ps, path ∙ no_path state h, phase)))
 
-  pub done_refused : old.wanted ≡ Cuts → IsRefused old new lines.Done why.Expect
+  pub done_refused : old.wanted ≡ Cuts → IsRefused old lines.Done why.Expect
   done_refused cuts = unexpected_at old new lines.Done (BetweenPoints old.kept.version points) in_between (ap (λ w. turn old.mill w (BetweenPoints old.kept.version points) lines.Done) cuts)
 
   pub cut_goes : new.kept.phase ≡ phases.Open → new.kept.points ≡ old.kept.points → new.kept.path ≡ old.kept.path → GoesOn old new lines.Cut
   cut_goes phase ps path state h = subst (λ s. AllKept (line_rules old.mill old.wanted s lines.Cut) × Keeps old.mill new.kept (line_next old.mill old.wanted s lines.Cut)) (sym (in_between state h)) (tt, (phase, ap reverse ps, path ∙ no_path state h))
 
-  pub between_unexpected : (line : Line) → turn_between old.wanted old.kept.version points line ≡ Refused → IsRefused old new line why.Expect
+  pub between_unexpected : (line : Line) → turn_between old.wanted old.kept.version points line ≡ Refused → IsRefused old line why.Expect
   between_unexpected line = unexpected_at old new line (BetweenPoints old.kept.version points) in_between
 
 -- ---- in a plan
@@ -148,14 +123,6 @@ plan_turn m version before sums slabs (lines.Spread ns) h = refl
 plan_turn m version before sums slabs (lines.CNew ns) h = refl
 plan_turn m version before sums slabs (lines.COld ns) h = refl
 
-new_others : (m : Mill) (slabs : List Column) (ns : List ℤ) → HaveOther why.Column (new_rules m slabs ns)
-new_others m slabs [] = ((λ e. cc), tt)
-new_others m slabs (u ∷ ns) = ((λ e. cc), (λ e. cc), (λ e. cc), (λ e. cc), tt)
-
-old_others : (m : Mill) (slabs : List Column) (ns : List ℤ) → HaveOther why.Column (old_rules m slabs ns)
-old_others m slabs [] = ((λ e. cc), tt)
-old_others m slabs (u ∷ ns) = ((λ e. cc), (λ e. cc), (λ e. cc), (λ e. cc), (λ e. cc), (λ e. cc), tt)
-
 module _ (old new : Machine) (at : old.kept.phase ≡ phases.Plan) where
   abbrev plan : (state : State) → Keeps old.mill old.kept state → IsPlanState old.mill old.kept state
   plan state h = plan_state old.mill old.kept state h at
@@ -177,14 +144,14 @@ module _ (old new : Machine) (at : old.kept.phase ≡ phases.Plan) where
       subst (λ x. AllKept (line_rules old.mill old.wanted x (lines.Old ns)) × Keeps old.mill new.kept (line_next old.mill old.wanted x (lines.Old ns))) (sym s.is)
       (kept s.slabs s.draft, (phase ∙ at, v, ap reverse ps ∙ s.points, path ∙ s.path, draft s.slabs s.draft))
 
-  refused_in_plan : (line : Line) (broken : Why) → ((state : State) (s : IsPlanState old.mill old.kept state) → FirstBroken (line_rules old.mill old.wanted (in_plan state s) line) broken × (broken ≡ why.Column → IsFoundAt old.mill (in_plan state s) line new.bad)) → IsRefused old new line broken
-  refused_in_plan line broken f state h = let s = plan state h in subst (λ x. FirstBroken (line_rules old.mill old.wanted x line) broken × (broken ≡ why.Column → IsFoundAt old.mill x line new.bad)) (sym s.is) (f state s)
+  refused_in_plan : (line : Line) (broken : Why) → ((state : State) (s : IsPlanState old.mill old.kept state) → FirstBroken (line_rules old.mill old.wanted (in_plan state s) line) broken) → IsRefused old line broken
+  refused_in_plan line broken f state h = let s = plan state h in subst (λ x. FirstBroken (line_rules old.mill old.wanted x line) broken) (sym s.is) (f state s)
 
-  pub new_refused : (ns : List ℤ) (broken : Why) → ((slabs : List Column) → IsDraft old.mill slabs old.kept.draft → FirstBroken (new_rules old.mill slabs ns) broken) → IsRefused old new (lines.New ns) broken
-  new_refused ns broken f = refused_in_plan (lines.New ns) broken (λ state s. (f s.slabs s.draft, no_column old (in_plan state s) (lines.New ns) new.bad (new_rules old.mill s.slabs ns) broken (new_others old.mill s.slabs ns) (f s.slabs s.draft)))
+  pub new_refused : (ns : List ℤ) (broken : Why) → ((slabs : List Column) → IsDraft old.mill slabs old.kept.draft → FirstBroken (new_rules old.mill slabs ns) broken) → IsRefused old (lines.New ns) broken
+  new_refused ns broken f = refused_in_plan (lines.New ns) broken (λ state s. f s.slabs s.draft)
 
-  pub old_refused : (ns : List ℤ) (broken : Why) → ((slabs : List Column) → IsDraft old.mill slabs old.kept.draft → FirstBroken (old_rules old.mill slabs ns) broken) → IsRefused old new (lines.Old ns) broken
-  old_refused ns broken f = refused_in_plan (lines.Old ns) broken (λ state s. (f s.slabs s.draft, no_column old (in_plan state s) (lines.Old ns) new.bad (old_rules old.mill s.slabs ns) broken (old_others old.mill s.slabs ns) (f s.slabs s.draft)))
+  pub old_refused : (ns : List ℤ) (broken : Why) → ((slabs : List Column) → IsDraft old.mill slabs old.kept.draft → FirstBroken (old_rules old.mill slabs ns) broken) → IsRefused old (lines.Old ns) broken
+  old_refused ns broken f = refused_in_plan (lines.Old ns) broken (λ state s. f s.slabs s.draft)
 
 -- ---- the line after a plan
 
@@ -293,14 +260,13 @@ module _ (old mid new : Machine) (line : Line) (at : old.kept.phase ≡ phases.P
   turn_is : (state : State) (s : IsPlanState old.mill old.kept state) → turn old.mill old.wanted state line ≡ with_rules (plan_rules old.mill s.sums s.slabs) (start_at state s)
   turn_is state s = ap (λ x. turn old.mill old.wanted x line) s.is ∙ plan_turn old.mill old.kept.version s.before s.sums s.slabs line other
 
-  pub plan_unexpected : can_begin old.kept.version line ≡ false → IsRefused old new line why.Expect
+  pub plan_unexpected : can_begin old.kept.version line ≡ false → IsRefused old line why.Expect
   plan_unexpected cannot state h = let s = here state h in
-      (subst (λ t. FirstBroken (rules_of t) why.Expect) (sym (turn_is state s ∙ ap (with_rules (plan_rules old.mill s.sums s.slabs)) (cannot_begin old.mill (goal_at state s) old.kept.version [] line cannot))) (inl (λ x. x, refl)), λ e. cc)
+      subst (λ t. FirstBroken (rules_of t) why.Expect) (sym (turn_is state s ∙ ap (with_rules (plan_rules old.mill s.sums s.slabs)) (cannot_begin old.mill (goal_at state s) old.kept.version [] line cannot))) (inl (λ x. x, refl))
 
-  pub plan_refused : (broken : Why) → can_begin old.kept.version line ≡ true → ((before : List Sums) (sums : Sums) (slabs : List Column) → reverse old.kept.points ≡ sums ∷ before → IsDraft old.mill slabs old.kept.draft → FirstBroken (plan_rules old.mill sums slabs) broken) → IsRefused old new line broken
+  pub plan_refused : (broken : Why) → can_begin old.kept.version line ≡ true → ((before : List Sums) (sums : Sums) (slabs : List Column) → reverse old.kept.points ≡ sums ∷ before → IsDraft old.mill slabs old.kept.draft → FirstBroken (plan_rules old.mill sums slabs) broken) → IsRefused old line broken
   plan_refused broken can f state h = let s = here state h in let first = f s.before s.sums s.slabs s.points s.draft in
-      (subst (λ t. FirstBroken (rules_of t) broken) (sym (turn_is state s)) (before_broken (plan_rules old.mill s.sums s.slabs) (start_at state s) broken (begins old.mill (goal_at state s) old.kept.version [] line can) first),
-       no_column old state line new.bad (plan_rules old.mill s.sums s.slabs) broken ((λ e. cc), (λ e. cc), tt) first)
+      subst (λ t. FirstBroken (rules_of t) broken) (sym (turn_is state s)) (before_broken (plan_rules old.mill s.sums s.slabs) (start_at state s) broken (begins old.mill (goal_at state s) old.kept.version [] line can) first)
 
   module _ (mill : mid.mill ≡ old.mill) (wanted : mid.wanted ≡ old.wanted) (phase : mid.kept.phase ≡ phases.Tree false) (version : mid.kept.version ≡ old.kept.version) (points : mid.kept.points ≡ old.kept.points) (path : mid.kept.path ≡ old.kept.path)
       (planned : (before : List Sums) (sums : Sums) (slabs : List Column) → reverse old.kept.points ≡ sums ∷ before → IsDraft old.mill slabs old.kept.draft → AllKept (plan_rules old.mill sums slabs)) where
@@ -317,16 +283,12 @@ module _ (old mid new : Machine) (line : Line) (at : old.kept.phase ≡ phases.P
         (subst (λ t. AllKept (rules_of t)) (sym (turn_is state s)) both.0,
          subst (λ t. Keeps old.mill new.kept (next_of state t)) (sym (turn_is state s)) (subst (λ x. Keeps old.mill new.kept x) (sym (both.1 state (InTree (goal_at state s) Begins []))) keeps))
 
-    pub plan_then_refused : (broken : Why) → IsRefused mid new line broken → IsRefused old new line broken
+    pub plan_then_refused : (broken : Why) → IsRefused mid line broken → IsRefused old line broken
     plan_then_refused broken refused state h =
         let s = here state h in
         let g = refused (InTree (goal_at state s) Begins []) (mid_keeps state s) in
-        let first : FirstBroken (rules_of (start_at state s)) broken = subst (λ m. FirstBroken (rules_of (turn_at_start m (goal_at state s) old.kept.version [] line)) broken) mill g.0 in
-        (subst (λ t. FirstBroken (rules_of t) broken) (sym (turn_is state s)) (after_broken (plan_rules old.mill s.sums s.slabs) (start_at state s) broken (planned s.before s.sums s.slabs s.points s.draft) first),
-         λ e. moved state s (subst (λ m. IsFoundAt m (InTree (goal_at state s) Begins []) line new.bad) mill (g.1 e)))
-      where
-        moved : (state : State) (s : IsPlanState old.mill old.kept state) → IsFoundAt old.mill (InTree (goal_at state s) Begins []) line new.bad → IsFoundAt old.mill state line new.bad
-        moved state s = same_found old.mill (InTree (goal_at state s) Begins []) state line new.bad (sym (ap path_of s.is))
+        let first : FirstBroken (rules_of (start_at state s)) broken = subst (λ m. FirstBroken (rules_of (turn_at_start m (goal_at state s) old.kept.version [] line)) broken) mill g in
+        subst (λ t. FirstBroken (rules_of t) broken) (sym (turn_is state s)) (after_broken (plan_rules old.mill s.sums s.slabs) (start_at state s) broken (planned s.before s.sums s.slabs s.points s.draft) first)
 
 -- ---- questions
 
@@ -347,24 +309,6 @@ no_ask m at before path lines.Plain h = refl
 no_ask m at before path (lines.Spread ns) h = refl
 no_ask m at before path (lines.CNew ns) h = refl
 no_ask m at before path (lines.COld ns) h = refl
-
-ask_others : (m : Mill) (at : List Decision → State) (path : List Decision) (line : Line) → HaveOther why.Column (rules_of (turn_to_ask m at [] path line))
-ask_others m at path lines.Header = ((λ e. cc), tt)
-ask_others m at path lines.Header2 = ((λ e. cc), tt)
-ask_others m at path (lines.Point ns) = ((λ e. cc), tt)
-ask_others m at path (lines.New ns) = ((λ e. cc), tt)
-ask_others m at path (lines.Old ns) = ((λ e. cc), tt)
-ask_others m at path (lines.Pair ns) = ((λ e. cc), (λ e. cc), tt)
-ask_others m at path (lines.Put ns) = ((λ e. cc), (λ e. cc), tt)
-ask_others m at path (lines.Leaf ns) = ((λ e. cc), tt)
-ask_others m at path lines.Done = ((λ e. cc), tt)
-ask_others m at path lines.Cut = ((λ e. cc), tt)
-ask_others m at path lines.Open = ((λ e. cc), tt)
-ask_others m at path lines.Bare = ((λ e. cc), tt)
-ask_others m at path lines.Plain = ((λ e. cc), tt)
-ask_others m at path (lines.Spread ns) = ((λ e. cc), tt)
-ask_others m at path (lines.CNew ns) = ((λ e. cc), tt)
-ask_others m at path (lines.COld ns) = ((λ e. cc), tt)
 
 -- with rules before its own
 ask_before : (m : Mill) (at : List Decision → State) (before : List Rule) (path : List Decision) (line : Line) → is_ask line ≡ true → turn_to_ask m at before path line ≡ with_rules before (turn_to_ask m at [] path line)
@@ -409,10 +353,9 @@ module _ (old new : Machine) (line : Line) (here : State) (only : (state : State
       (subst (λ t. AllKept (rules_of t)) (sym is) (asked.kept at))
       (subst (λ t. Keeps old.mill new.kept (next_of here t)) (sym is) (subst (λ x. Keeps old.mill new.kept x) (sym (asked.next_is at here)) keeps))
 
-  pub ask_refused : (broken : Why) → IsNotAsked old.mill old.kept.path line broken → IsRefused old new line broken
+  pub ask_refused : (broken : Why) → IsNotAsked old.mill old.kept.path line broken → IsRefused old line broken
   ask_refused broken f = refused_at old new line here broken only
       (subst (λ t. FirstBroken (rules_of t) broken) (sym is) (f at))
-      (no_column old here line new.bad (rules_of (turn_to_ask old.mill at [] old.kept.path line)) broken (ask_others old.mill at old.kept.path line) (f at))
 
 -- ---- where a tree begins
 
@@ -462,15 +405,15 @@ module _ (old new : Machine) (rest : Bool) where
   to_points r v ps phase path e = subst (λ o. Keeps old.mill new.kept (branch_or (after_tree goal) (InTree goal Begins) o)) (sym e)
       (subst (λ r. Keeps old.mill new.kept (after_owner (owner_of r) old.kept.version (reverse old.kept.points))) (sym r) (phase, v, ap reverse ps, path))
 
-  pub to_proved : rest ≡ true → new.kept.points ≡ old.kept.points → new.kept.phase ≡ phases.Proved → next_branch old.kept.path ≡ None → Keeps old.mill new.kept after_leaf
-  to_proved r ps phase e = subst (λ o. Keeps old.mill new.kept (branch_or (after_tree goal) (InTree goal Begins) o)) (sym e)
-      (subst (λ r. Keeps old.mill new.kept (after_owner (owner_of r) old.kept.version (reverse old.kept.points))) (sym r) (phase, ap reverse ps))
+  pub to_proved : rest ≡ true → new.kept.points ≡ old.kept.points → new.kept.phase ≡ phases.Proved → new.kept.path ≡ [] → next_branch old.kept.path ≡ None → Keeps old.mill new.kept after_leaf
+  to_proved r ps phase path e = subst (λ o. Keeps old.mill new.kept (branch_or (after_tree goal) (InTree goal Begins) o)) (sym e)
+      (subst (λ r. Keeps old.mill new.kept (after_owner (owner_of r) old.kept.version (reverse old.kept.points))) (sym r) (phase, ap reverse ps, path))
 
   module _ (at : old.kept.phase ≡ phases.Tree rest) where
     in_tree : (state : State) → Keeps old.mill old.kept state → state ≡ InTree goal Begins old.kept.path
     in_tree state h = tree_state old.mill old.kept state rest h at
 
-    pub tree_unexpected : (line : Line) → can_begin old.kept.version line ≡ false → IsRefused old new line why.Expect
+    pub tree_unexpected : (line : Line) → can_begin old.kept.version line ≡ false → IsRefused old line why.Expect
     tree_unexpected line cannot = unexpected_at old new line (InTree goal Begins old.kept.path) in_tree (cannot_begin old.mill goal old.kept.version old.kept.path line cannot)
 
     abbrev rules_of_leaf : List ℤ → List Rule
@@ -481,9 +424,9 @@ module _ (old new : Machine) (rest : Bool) where
         (subst (λ t. AllKept (rules_of t)) (sym (leaf_turn old.mill goal old.kept.version old.kept.path ns)) kept)
         (subst (λ t. Keeps old.mill new.kept (next_of (InTree goal Begins old.kept.path) t)) (sym (leaf_turn old.mill goal old.kept.version old.kept.path ns)) keeps)
 
-    pub leaf_refused : (ns : List ℤ) (broken : Why) → FirstBroken (rules_of_leaf ns) broken → (broken ≡ why.Column → IsFoundAt old.mill (InTree goal Begins old.kept.path) (lines.Leaf ns) new.bad) → IsRefused old new (lines.Leaf ns) broken
-    leaf_refused ns broken f found = refused_at old new (lines.Leaf ns) (InTree goal Begins old.kept.path) broken in_tree
-        (subst (λ t. FirstBroken (rules_of t) broken) (sym (leaf_turn old.mill goal old.kept.version old.kept.path ns)) f) found
+    pub leaf_refused : (ns : List ℤ) (broken : Why) → FirstBroken (rules_of_leaf ns) broken → IsRefused old (lines.Leaf ns) broken
+    leaf_refused ns broken f = refused_at old new (lines.Leaf ns) (InTree goal Begins old.kept.path) broken in_tree
+        (subst (λ t. FirstBroken (rules_of t) broken) (sym (leaf_turn old.mill goal old.kept.version old.kept.path ns)) f)
 
     unmarked_is : (line : Line) → old.kept.version ≡ One → IsNoLeaf line → turn old.mill old.wanted (InTree goal Begins old.kept.path) line ≡ turn_to_ask old.mill (InTree goal Begins) [] old.kept.path line
     unmarked_is line one no_leaf = ap (λ v. turn_at_start old.mill goal v old.kept.path line) one ∙ unmarked_turn old.mill goal old.kept.path line no_leaf
@@ -491,7 +434,7 @@ module _ (old new : Machine) (rest : Bool) where
     pub tree_ask_goes : (line : Line) → old.kept.version ≡ One → IsNoLeaf line → IsAsked old.mill old.kept.path new.kept.path line → Keeps old.mill new.kept (InTree goal Begins new.kept.path) → GoesOn old new line
     tree_ask_goes line one no_leaf = ask_goes old new line (InTree goal Begins old.kept.path) in_tree (InTree goal Begins) (unmarked_is line one no_leaf)
 
-    pub tree_ask_refused : (line : Line) (broken : Why) → old.kept.version ≡ One → IsNoLeaf line → IsNotAsked old.mill old.kept.path line broken → IsRefused old new line broken
+    pub tree_ask_refused : (line : Line) (broken : Why) → old.kept.version ≡ One → IsNoLeaf line → IsNotAsked old.mill old.kept.path line broken → IsRefused old line broken
     tree_ask_refused line broken one no_leaf = ask_refused old new line (InTree goal Begins old.kept.path) in_tree (InTree goal Begins) (unmarked_is line one no_leaf) broken
 
     -- a mark of one line
@@ -513,10 +456,9 @@ module _ (old new : Machine) (rest : Bool) where
       pub spread_goes : (ns : List ℤ) → AllKept (spread_rules ns) → IsTally old.mill (number_at ns 0) [] new.kept.tally → new.kept.version ≡ old.kept.version → new.kept.points ≡ old.kept.points → new.kept.path ≡ old.kept.path → new.kept.phase ≡ phases.Spread rest → GoesOn old new (lines.Spread ns)
       spread_goes ns kept tally v ps path phase = marked_goes (lines.Spread ns) kept (v, ap reverse ps, path, (phase ∙ ap phases.Spread (rest_is rest), tally))
 
-      pub spread_refused : (ns : List ℤ) (broken : Why) → FirstBroken (spread_rules ns) broken → IsRefused old new (lines.Spread ns) broken
+      pub spread_refused : (ns : List ℤ) (broken : Why) → FirstBroken (spread_rules ns) broken → IsRefused old (lines.Spread ns) broken
       spread_refused ns broken f = refused_at old new (lines.Spread ns) (InTree goal Begins old.kept.path) broken in_tree
           (subst (λ v. FirstBroken (rules_of (turn_at_start old.mill goal v old.kept.path (lines.Spread ns))) broken) (sym two) f)
-          (no_column old (InTree goal Begins old.kept.path) (lines.Spread ns) new.bad (spread_rules ns) broken ((λ e. cc), tt) f)
 
   -- ---- after a mark
 
@@ -527,7 +469,7 @@ module _ (old new : Machine) (rest : Bool) where
     pub question_goes : (line : Line) → IsAsked old.mill old.kept.path new.kept.path line → Keeps old.mill new.kept (InTree goal Begins new.kept.path) → GoesOn old new line
     question_goes line = ask_goes old new line (InTree goal Marked old.kept.path) in_question (InTree goal Begins) refl
 
-    pub question_refused : (line : Line) (broken : Why) → IsNotAsked old.mill old.kept.path line broken → IsRefused old new line broken
+    pub question_refused : (line : Line) (broken : Why) → IsNotAsked old.mill old.kept.path line broken → IsRefused old line broken
     question_refused line broken = ask_refused old new line (InTree goal Marked old.kept.path) in_question (InTree goal Begins) refl broken
 
 -- ---- in a spread
@@ -549,16 +491,6 @@ spread_turn m goal d shares path lines.Plain h = refl
 spread_turn m goal d shares path (lines.Spread ns) h = refl
 spread_turn m goal d shares path (lines.CNew ns) h = absurd h
 spread_turn m goal d shares path (lines.COld ns) h = absurd h
-
-new_share_others : (m : Mill) (path : List Decision) (d : ℕ) (shares : List Share) (ns : List ℤ) → HaveOther why.Column (new_share_rules m path d shares ns)
-new_share_others m path d shares [] = ((λ e. cc), tt)
-new_share_others m path d shares (x ∷ []) = ((λ e. cc), tt)
-new_share_others m path d shares (x ∷ u ∷ ns) = ((λ e. cc), (λ e. cc), (λ e. cc), (λ e. cc), (λ e. cc), (λ e. cc), (λ e. cc), tt)
-
-old_share_others : (m : Mill) (path : List Decision) (d : ℕ) (shares : List Share) (ns : List ℤ) → HaveOther why.Column (old_share_rules m path d shares ns)
-old_share_others m path d shares [] = ((λ e. cc), tt)
-old_share_others m path d shares (x ∷ []) = ((λ e. cc), tt)
-old_share_others m path d shares (x ∷ s ∷ ns) = ((λ e. cc), (λ e. cc), (λ e. cc), (λ e. cc), (λ e. cc), (λ e. cc), (λ e. cc), (λ e. cc), tt)
 
 module _ (old new : Machine) (rest : Bool) (at : old.kept.phase ≡ phases.Spread rest) where
   abbrev spread : (state : State) → Keeps old.mill old.kept state → IsSpreadState old.mill old.kept rest state
@@ -590,31 +522,31 @@ module _ (old new : Machine) (rest : Bool) (at : old.kept.phase ≡ phases.Sprea
       subst (λ x. AllKept (line_rules old.mill old.wanted x (lines.COld ns)) × Keeps old.mill new.kept (line_next old.mill old.wanted x (lines.COld ns))) (sym s.is)
       (kept s.shares s.tally, to_spread phase v ps path (s.shares ++ share_of_old ns ∷ []) (tally s.shares s.tally))
 
-  refused_in_spread : (line : Line) (broken : Why) → ((shares : List Share) → IsTally old.mill d shares old.kept.tally → FirstBroken (line_rules old.mill old.wanted (in_spread shares) line) broken × (broken ≡ why.Column → IsFoundAt old.mill (in_spread shares) line new.bad)) → IsRefused old new line broken
-  refused_in_spread line broken f state h = let s = spread state h in subst (λ x. FirstBroken (line_rules old.mill old.wanted x line) broken × (broken ≡ why.Column → IsFoundAt old.mill x line new.bad)) (sym s.is) (f s.shares s.tally)
+  refused_in_spread : (line : Line) (broken : Why) → ((shares : List Share) → IsTally old.mill d shares old.kept.tally → FirstBroken (line_rules old.mill old.wanted (in_spread shares) line) broken) → IsRefused old line broken
+  refused_in_spread line broken f state h = let s = spread state h in subst (λ x. FirstBroken (line_rules old.mill old.wanted x line) broken) (sym s.is) (f s.shares s.tally)
 
-  pub cnew_refused : (ns : List ℤ) (broken : Why) → ((shares : List Share) → IsTally old.mill d shares old.kept.tally → FirstBroken (new_share_rules old.mill old.kept.path (unsigned_abs d) shares ns) broken) → IsRefused old new (lines.CNew ns) broken
-  cnew_refused ns broken f = refused_in_spread (lines.CNew ns) broken (λ shares t. (f shares t, no_column old (in_spread shares) (lines.CNew ns) new.bad (new_share_rules old.mill old.kept.path (unsigned_abs d) shares ns) broken (new_share_others old.mill old.kept.path (unsigned_abs d) shares ns) (f shares t)))
+  pub cnew_refused : (ns : List ℤ) (broken : Why) → ((shares : List Share) → IsTally old.mill d shares old.kept.tally → FirstBroken (new_share_rules old.mill old.kept.path (unsigned_abs d) shares ns) broken) → IsRefused old (lines.CNew ns) broken
+  cnew_refused ns broken f = refused_in_spread (lines.CNew ns) broken f
 
-  pub cold_refused : (ns : List ℤ) (broken : Why) → ((shares : List Share) → IsTally old.mill d shares old.kept.tally → FirstBroken (old_share_rules old.mill old.kept.path (unsigned_abs d) shares ns) broken) → IsRefused old new (lines.COld ns) broken
-  cold_refused ns broken f = refused_in_spread (lines.COld ns) broken (λ shares t. (f shares t, no_column old (in_spread shares) (lines.COld ns) new.bad (old_share_rules old.mill old.kept.path (unsigned_abs d) shares ns) broken (old_share_others old.mill old.kept.path (unsigned_abs d) shares ns) (f shares t)))
+  pub cold_refused : (ns : List ℤ) (broken : Why) → ((shares : List Share) → IsTally old.mill d shares old.kept.tally → FirstBroken (old_share_rules old.mill old.kept.path (unsigned_abs d) shares ns) broken) → IsRefused old (lines.COld ns) broken
+  cold_refused ns broken f = refused_in_spread (lines.COld ns) broken f
 
   -- the question after it
   module _ (line : Line) (other : IsNoShare line) where
     after_spread : (shares : List Share) → turn old.mill old.wanted (in_spread shares) line ≡ turn_after_shares old.mill spread_goal d shares old.kept.path line
     after_spread shares = spread_turn old.mill spread_goal d shares old.kept.path line other
 
-    unexpected_after : ((shares : List Share) → IsTally old.mill d shares old.kept.tally → turn_after_shares old.mill spread_goal d shares old.kept.path line ≡ Refused) → IsRefused old new line why.Expect
-    unexpected_after refused = refused_in_spread line why.Expect (λ shares t. (subst (λ x. FirstBroken (rules_of x) why.Expect) (sym (after_spread shares ∙ refused shares t)) (inl (λ x. x, refl)), λ e. cc))
+    unexpected_after : ((shares : List Share) → IsTally old.mill d shares old.kept.tally → turn_after_shares old.mill spread_goal d shares old.kept.path line ≡ Refused) → IsRefused old line why.Expect
+    unexpected_after refused = refused_in_spread line why.Expect (λ shares t. subst (λ x. FirstBroken (rules_of x) why.Expect) (sym (after_spread shares ∙ refused shares t)) (inl (λ x. x, refl)))
 
-    pub spread_no_share : old.kept.tally.begun ≡ false → IsRefused old new line why.Expect
+    pub spread_no_share : old.kept.tally.begun ≡ false → IsRefused old line why.Expect
     spread_no_share none = unexpected_after (λ shares t. here shares t)
       where
         here : (shares : List Share) → IsTally old.mill d shares old.kept.tally → turn_after_shares old.mill spread_goal d shares old.kept.path line ≡ Refused
         here [] t = refl
         here (s ∷ shares) t = let e : true ≡ false = sym t.begun ∙ none in cc
 
-    pub spread_no_ask : is_ask line ≡ false → IsRefused old new line why.Expect
+    pub spread_no_ask : is_ask line ≡ false → IsRefused old line why.Expect
     spread_no_ask no = unexpected_after (λ shares t. here shares)
       where
         here : (shares : List Share) → turn_after_shares old.mill spread_goal d shares old.kept.path line ≡ Refused
@@ -629,18 +561,12 @@ module _ (old new : Machine) (rest : Bool) (at : old.kept.phase ≡ phases.Sprea
       asked_after [] t = let e : false ≡ true = sym t.begun ∙ begun in cc
       asked_after (s ∷ shares) t = after_spread (s ∷ shares) ∙ ask_before old.mill (InTree spread_goal Begins) (cover_rules old.mill (tree_limits spread_goal) (unsigned_abs d) (s ∷ shares)) old.kept.path line asks
 
-      pub cover_refused : (broken : Why) → ((shares : List Share) → IsTally old.mill d shares old.kept.tally → FirstBroken (cover_rules old.mill (tree_limits spread_goal) (unsigned_abs d) shares) broken) → IsRefused old new line broken
-      cover_refused broken f = refused_in_spread line broken (λ shares t. (
-        subst (λ x. FirstBroken (rules_of x) broken) (sym (asked_after shares t)) (before_broken (cover_rules old.mill (tree_limits spread_goal) (unsigned_abs d) shares) asking broken (ask_taken old.mill (InTree spread_goal Begins) old.kept.path line asks) (f shares t)),
-        no_column old (in_spread shares) line new.bad (cover_rules old.mill (tree_limits spread_goal) (unsigned_abs d) shares) broken ((λ e. cc), (λ e. cc), (λ e. cc), tt) (f shares t)
-      ))
+      pub cover_refused : (broken : Why) → ((shares : List Share) → IsTally old.mill d shares old.kept.tally → FirstBroken (cover_rules old.mill (tree_limits spread_goal) (unsigned_abs d) shares) broken) → IsRefused old line broken
+      cover_refused broken f = refused_in_spread line broken (λ shares t. subst (λ x. FirstBroken (rules_of x) broken) (sym (asked_after shares t)) (before_broken (cover_rules old.mill (tree_limits spread_goal) (unsigned_abs d) shares) asking broken (ask_taken old.mill (InTree spread_goal Begins) old.kept.path line asks) (f shares t)))
 
       module _ (covers : (shares : List Share) → IsTally old.mill d shares old.kept.tally → AllKept (cover_rules old.mill (tree_limits spread_goal) (unsigned_abs d) shares)) where
-        pub covered_refused : (broken : Why) → IsNotAsked old.mill old.kept.path line broken → IsRefused old new line broken
-        covered_refused broken f = refused_in_spread line broken (λ shares t. (
-          subst (λ x. FirstBroken (rules_of x) broken) (sym (asked_after shares t)) (after_broken (cover_rules old.mill (tree_limits spread_goal) (unsigned_abs d) shares) asking broken (covers shares t) (f (InTree spread_goal Begins))),
-          no_column old (in_spread shares) line new.bad (rules_of asking) broken (ask_others old.mill (InTree spread_goal Begins) old.kept.path line) (f (InTree spread_goal Begins))
-        ))
+        pub covered_refused : (broken : Why) → IsNotAsked old.mill old.kept.path line broken → IsRefused old line broken
+        covered_refused broken f = refused_in_spread line broken (λ shares t. subst (λ x. FirstBroken (rules_of x) broken) (sym (asked_after shares t)) (after_broken (cover_rules old.mill (tree_limits spread_goal) (unsigned_abs d) shares) asking broken (covers shares t) (f (InTree spread_goal Begins))))
 
         pub covered_goes : IsAsked old.mill old.kept.path new.kept.path line → Keeps old.mill new.kept (InTree spread_goal Begins new.kept.path) → GoesOn old new line
         covered_goes asked keeps state h =
@@ -683,8 +609,8 @@ module _ (old new : Machine) (at : old.kept.phase ≡ phases.Open) where
   pub to_open_branch : new.kept.points ≡ old.kept.points → new.kept.phase ≡ phases.Open → next_branch old.kept.path ≡ Some new.kept.path → Keeps old.mill new.kept after_open
   to_open_branch ps phase e = subst (λ o. Keeps old.mill new.kept (branch_or (Ended Unfinished open_points) (InOpenTree open_points) o)) (sym e) (phase, ap reverse ps, refl)
 
-  pub to_unfinished : new.kept.points ≡ old.kept.points → new.kept.phase ≡ phases.Unfinished → next_branch old.kept.path ≡ None → Keeps old.mill new.kept after_open
-  to_unfinished ps phase e = subst (λ o. Keeps old.mill new.kept (branch_or (Ended Unfinished open_points) (InOpenTree open_points) o)) (sym e) (phase, ap reverse ps)
+  pub to_unfinished : new.kept.points ≡ old.kept.points → new.kept.phase ≡ phases.Unfinished → new.kept.path ≡ [] → next_branch old.kept.path ≡ None → Keeps old.mill new.kept after_open
+  to_unfinished ps phase path e = subst (λ o. Keeps old.mill new.kept (branch_or (Ended Unfinished open_points) (InOpenTree open_points) o)) (sym e) (phase, ap reverse ps, path)
 
   pub open_goes : Keeps old.mill new.kept after_open → GoesOn old new lines.Open
   open_goes keeps = goes_at old new lines.Open (InOpenTree open_points old.kept.path) in_open tt keeps
@@ -692,12 +618,12 @@ module _ (old new : Machine) (at : old.kept.phase ≡ phases.Open) where
   pub open_ask_goes : (line : Line) → IsNoOpen line → IsAsked old.mill old.kept.path new.kept.path line → new.kept.points ≡ old.kept.points → new.kept.phase ≡ old.kept.phase → GoesOn old new line
   open_ask_goes line no_open asked ps phase = ask_goes old new line (InOpenTree open_points old.kept.path) in_open (InOpenTree open_points) (open_turn old.mill open_points old.kept.path line no_open) asked (phase ∙ at, ap reverse ps, refl)
 
-  pub open_ask_refused : (line : Line) (broken : Why) → IsNoOpen line → IsNotAsked old.mill old.kept.path line broken → IsRefused old new line broken
+  pub open_ask_refused : (line : Line) (broken : Why) → IsNoOpen line → IsNotAsked old.mill old.kept.path line broken → IsRefused old line broken
   open_ask_refused line broken no_open = ask_refused old new line (InOpenTree open_points old.kept.path) in_open (InOpenTree open_points) (open_turn old.mill open_points old.kept.path line no_open) broken
 
 -- ---- the end
 
-pub ended_refused : (old new : Machine) (line : Line) → (old.kept.phase ≡ phases.Proved) ⊎ (old.kept.phase ≡ phases.Unfinished) → IsRefused old new line why.Expect
+pub ended_refused : (old new : Machine) (line : Line) → (old.kept.phase ≡ phases.Proved) ⊎ (old.kept.phase ≡ phases.Unfinished) → IsRefused old line why.Expect
 ended_refused old new line at = elim at [
   | inl p ↦ unexpected_at old new line (Ended Proved (reverse old.kept.points)) (λ state h. proved_state old.mill old.kept state h p) refl
   | inr p ↦ unexpected_at old new line (Ended Unfinished (reverse old.kept.points)) (λ state h. unfinished_state old.mill old.kept state h p) refl

@@ -46,5 +46,5 @@ Keeps m k (BetweenPoints version points) = (k.phase ≡ phases.Between) × (k.ve
 Keeps m k (InPlan version before sums slabs) = (k.phase ≡ phases.Plan) × (k.version ≡ version) × (reverse k.points ≡ sums ∷ before) × (k.path ≡ []) × IsDraft m slabs k.draft
 Keeps m k (InTree goal stage path) = (k.version ≡ goal.version) × (reverse k.points ≡ goal.points) × (k.path ≡ path) × IsStage m k goal.owner stage
 Keeps m k (InOpenTree points path) = (k.phase ≡ phases.Open) × (reverse k.points ≡ points) × (k.path ≡ path)
-Keeps m k (Ended Proved points) = (k.phase ≡ phases.Proved) × (reverse k.points ≡ points)
-Keeps m k (Ended Unfinished points) = (k.phase ≡ phases.Unfinished) × (reverse k.points ≡ points)
+Keeps m k (Ended Proved points) = (k.phase ≡ phases.Proved) × (reverse k.points ≡ points) × (k.path ≡ [])
+Keeps m k (Ended Unfinished points) = (k.phase ≡ phases.Unfinished) × (reverse k.points ≡ points) × (k.path ≡ [])

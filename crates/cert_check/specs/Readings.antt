@@ -113,19 +113,22 @@ abbrev pub CarriesFor : Mill → State → Line → LineWhy → Type 0
 CarriesFor m state line (carried.Column kind orders) = (numbers : List ℤ) × (line ≡ lines.Leaf numbers) × IsExceeding m (path_of state) (prices_of (length m.orders) numbers) (record { kind = kind; orders = orders })
 CarriesFor m state line other = Unit {0}
 
--- the line is a leaf, and this is a column that exceeds its prices
-abbrev pub IsFoundAt : Mill → State → Line → Option Column → Type 0
-IsFoundAt m state line None = ⊥
-IsFoundAt m state line (Some c) = (numbers : List ℤ) × (line ≡ lines.Leaf numbers) × IsExceeding m (path_of state) (prices_of (length m.orders) numbers) c
+-- for each state that is kept, this is the first rule that the line breaks
+abbrev pub IsRefused : Machine → Line → Why → Type 0
+IsRefused old line broken = (state : State) → Keeps old.mill old.kept state → FirstBroken (line_rules old.mill old.wanted state line) broken
 
--- for each state that is kept, this is the first rule that the line breaks; where it is that of columns, one was found
-abbrev pub IsRefused : Machine → Machine → Line → Why → Type 0
-IsRefused old new line broken = (state : State) → Keeps old.mill old.kept state → FirstBroken (line_rules old.mill old.wanted state line) broken × (broken ≡ why.Column → IsFoundAt old.mill state line new.bad)
+-- the line is a leaf, and the machine has a column that exceeds its prices
+pub record HasFound (old new : Machine) (line : Line) : Type 0 where
+  pub numbers : List ℤ
+  pub leaf : line ≡ lines.Leaf numbers
+  pub column : Column
+  pub bad : new.bad ≡ Some column
+  pub exceeds : IsExceeding old.mill old.kept.path (prices_of (length old.mill.orders) numbers) column
 
 -- what has become of a line
 abbrev pub IsTurn : Machine → Machine → Line → Result (Unit {0}) Why → Type 0
 IsTurn old new line (Ok done) = GoesOn old new line
-IsTurn old new line (Err broken) = IsRefused old new line broken
+IsTurn old new line (Err broken) = IsRefused old line broken
 
 -- the mill stays, and what is wanted
 pub record IsSameReader (old new : Machine) : Type 0 where
