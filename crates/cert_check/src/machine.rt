@@ -1,5 +1,5 @@
 //! The line machine: a line after another, and what can stand next.
-ghost use Rattle.std.specs.Prelude.{◌≡◌, [], true, false, IfOk, IsSome, Some, if◌then◌else◌};
+ghost use Rattle.std.specs.Prelude.{◌≡◌, Err, [], true, false, IfOk, IsSome, Some, if◌then◌else◌};
 ghost use Rattle.cert_check.specs.Machines.{IsFitted};
 ghost use Rattle.cert_view.specs.declared.line.Line.TheVariants as lines;
 ghost use Rattle.cert_view.specs.Text.{IsLine};
@@ -7,7 +7,7 @@ ghost use Rattle.cert_rules.specs.States.State.{Begin};
 ghost use Rattle.cert_check.specs.declared.phase.Phase.TheVariants as phases;
 ghost use Rattle.cert_check.specs.Kept.{Keeps};
 ghost use Rattle.cert_check.specs.Lines.{IsNoSlab, IsNoLeaf, IsNoShare};
-ghost use Rattle.cert_check.specs.Readings.{IsTurn, IsSameReader, wanted_of};
+ghost use Rattle.cert_check.specs.Readings.{HasFound, IsTurn, IsSameReader, wanted_of};
 
 use crate::Points;
 use crate::phase::Phase;
@@ -90,6 +90,7 @@ impl<'m> Machine<'m> {
         requires { IsLine line.now }
         ensures turn { IsTurn (seen self.old) (seen self.new) line.now result }
         ensures same { IsSameReader (seen self.old) (seen self.new) }
+        ensures column { result ≡ Err Why.Column → HasFound (seen self.old) (seen self.new) line.now }
     {
         match self.phase {
             Phase::Begin => self.header(line),
@@ -109,6 +110,7 @@ impl<'m> Machine<'m> {
         requires { self.old.phase ≡ phases.Begin }
         ensures turn { IsTurn (seen self.old) (seen self.new) line.now result }
         ensures same { IsSameReader (seen self.old) (seen self.new) }
+        ensures column { result ≡ Err Why.Column → HasFound (seen self.old) (seen self.new) line.now }
     {
         match line {
             Line::Header => {
@@ -131,6 +133,7 @@ impl<'m> Machine<'m> {
         requires line { IsLine line.now }
         ensures turn { IsTurn (seen self.old) (seen self.new) line.now result }
         ensures same { IsSameReader (seen self.old) (seen self.new) }
+        ensures column { result ≡ Err Why.Column → HasFound (seen self.old) (seen self.new) line.now }
     {
         match line {
             Line::Point(numbers) => match self.points.add(numbers) {
@@ -162,6 +165,7 @@ impl<'m> Machine<'m> {
         requires line { IsLine line.now }
         ensures turn { IsTurn (seen self.old) (seen self.new) line.now result }
         ensures same { IsSameReader (seen self.old) (seen self.new) }
+        ensures column { result ≡ Err Why.Column → HasFound (seen self.old) (seen self.new) line.now }
     {
         match line {
             Line::New(numbers) => self.draft.new_slab(self.mill, &mut self.roster, numbers),
@@ -177,6 +181,7 @@ impl<'m> Machine<'m> {
         requires other { IsNoSlab line.now }
         ensures turn { IsTurn (seen self.old) (seen self.new) line.now result }
         ensures same { IsSameReader (seen self.old) (seen self.new) }
+        ensures column { result ≡ Err Why.Column → HasFound (seen self.old) (seen self.new) line.now }
     {
         if !can_begin(self.version, line) {
             return Err(Why::Expect);
@@ -200,6 +205,7 @@ impl<'m> Machine<'m> {
         requires line { IsLine line.now }
         ensures turn { IsTurn (seen self.old) (seen self.new) line.now result }
         ensures same { IsSameReader (seen self.old) (seen self.new) }
+        ensures column { result ≡ Err Why.Column → HasFound (seen self.old) (seen self.new) line.now }
     {
         match line {
             Line::Leaf(numbers) => self.leaf(rest, numbers),
@@ -215,6 +221,7 @@ impl<'m> Machine<'m> {
         requires phase { self.old.phase ≡ phases.Tree rest }
         ensures turn { IsTurn (seen self.old) (seen self.new) (lines.Leaf numbers.now) result }
         ensures same { IsSameReader (seen self.old) (seen self.new) }
+        ensures column { result ≡ Err Why.Column → HasFound (seen self.old) (seen self.new) (lines.Leaf numbers.now) }
     {
         let limits = self.points.limits(rest);
         match leaf_line(self.mill, limits, &mut self.path, numbers) {
@@ -236,6 +243,7 @@ impl<'m> Machine<'m> {
         requires other { IsNoLeaf line.now }
         ensures turn { IsTurn (seen self.old) (seen self.new) line.now result }
         ensures same { IsSameReader (seen self.old) (seen self.new) }
+        ensures column { result ≡ Err Why.Column → HasFound (seen self.old) (seen self.new) line.now }
     {
         match line {
             Line::Bare => {
@@ -263,6 +271,7 @@ impl<'m> Machine<'m> {
         requires line { IsLine line.now }
         ensures turn { IsTurn (seen self.old) (seen self.new) line.now result }
         ensures same { IsSameReader (seen self.old) (seen self.new) }
+        ensures column { result ≡ Err Why.Column → HasFound (seen self.old) (seen self.new) line.now }
     {
         match ask_line(self.mill, &mut self.path, line) {
             Err(why) => Err(why),
@@ -279,6 +288,7 @@ impl<'m> Machine<'m> {
         requires line { IsLine line.now }
         ensures turn { IsTurn (seen self.old) (seen self.new) line.now result }
         ensures same { IsSameReader (seen self.old) (seen self.new) }
+        ensures column { result ≡ Err Why.Column → HasFound (seen self.old) (seen self.new) line.now }
     {
         match line {
             Line::CNew(numbers) => {
@@ -298,6 +308,7 @@ impl<'m> Machine<'m> {
         requires other { IsNoShare line.now }
         ensures turn { IsTurn (seen self.old) (seen self.new) line.now result }
         ensures same { IsSameReader (seen self.old) (seen self.new) }
+        ensures column { result ≡ Err Why.Column → HasFound (seen self.old) (seen self.new) line.now }
     {
         if !self.tally.has_begun() || !is_ask(line) {
             return Err(Why::Expect);
@@ -321,6 +332,7 @@ impl<'m> Machine<'m> {
         requires line { IsLine line.now }
         ensures turn { IsTurn (seen self.old) (seen self.new) line.now result }
         ensures same { IsSameReader (seen self.old) (seen self.new) }
+        ensures column { result ≡ Err Why.Column → HasFound (seen self.old) (seen self.new) line.now }
     {
         match line {
             Line::Open => {

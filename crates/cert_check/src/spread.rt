@@ -1,5 +1,5 @@
 //! Lines of shares: the code that the line machine calls in a spread.
-ghost use Rattle.std.specs.Prelude.{◌≡◌, ◌≤◌, ◌++◌, ◌∷◌, [], List, OnOk, length, unsigned_abs};
+ghost use Rattle.std.specs.Prelude.{◌≡◌, ◌≢◌, Err, ◌≤◌, ◌++◌, ◌∷◌, [], List, OnOk, length, unsigned_abs};
 ghost use Rattle.mill_model.specs.Shares.{Share};
 ghost use Rattle.cert_rules.specs.Spreads.{share_of_new, share_of_old, new_share_rules, old_share_rules};
 ghost use Rattle.cert_slabs.specs.Answers.{Answers, IsShare, share_of};
@@ -30,6 +30,7 @@ pub(crate) fn new_share(
         IsTally mill.now tally.old.d (shares ++ share_of_new numbers.now ∷ []) tally.new) }
     ensures orders { length tally.new.covered ≡ length mill.now.orders }
     ensures slabs { length tally.new.used ≡ length mill.now.yard }
+    ensures other { result ≢ Err Why.Column }
 {
     match read_new_share(mill, roster, numbers) {
         Err(why) => Err(why),
@@ -55,6 +56,7 @@ pub(crate) fn old_share(
         IsTally mill.now tally.old.d (shares ++ share_of_old numbers.now ∷ []) tally.new) }
     ensures orders { length tally.new.covered ≡ length mill.now.orders }
     ensures slabs { length tally.new.used ≡ length mill.now.yard }
+    ensures other { result ≢ Err Why.Column }
 {
     match read_old_share(mill, roster, numbers) {
         Err(why) => Err(why),
@@ -81,6 +83,7 @@ fn add_share(
         IsTally mill.now tally.old.d (shares ++ share_of times kind roster.now ∷ []) tally.new) }
     ensures orders { length tally.new.covered ≡ length mill.now.orders }
     ensures slabs { length tally.new.used ≡ length mill.now.yard }
+    ensures other { result ≢ Err Why.Column }
 {
     if !path.agrees(kind, roster.orders()) {
         return Err(Why::Agree);

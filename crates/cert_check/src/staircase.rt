@@ -1,5 +1,5 @@
 //! The sums of the points so far.
-ghost use Rattle.std.specs.Prelude.{◌≡◌, ◌∷◌, [], reverse, length, IfOk, OnOk};
+ghost use Rattle.std.specs.Prelude.{◌≡◌, ◌≢◌, Err, ◌∷◌, [], reverse, length, IfOk, OnOk};
 ghost use Rattle.cert_rules.specs.States.{latest, limits_of};
 ghost use Rattle.cert_rules.specs.Slabs.{point_rules, sums_of_line};
 ghost use Rattle.cert_slabs.specs.Answers.{Answers};
@@ -52,6 +52,7 @@ impl Staircase {
         requires { length numbers.now ≡ 2 }
         ensures rules { Answers (point_rules (latest (reverse self.old)) numbers.now) result }
         ensures points { OnOk result (reverse self.new ≡ sums_of_line numbers.now ∷ reverse self.old) }
+        ensures other { result ≢ Err Why.Column }
     {
         let loss = numbers.get(0);
         let count = numbers.get(1);

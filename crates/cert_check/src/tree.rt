@@ -1,5 +1,5 @@
 //! Lines of a tree against the path: the code that the line machine calls there.
-ghost use Rattle.std.specs.Prelude.{◌≡◌, ◌≤◌, ◌∷◌, true, None, Ok, Err, IfErr, IfOk, OnOk, IfSome, IfNone, IsSome, length};
+ghost use Rattle.std.specs.Prelude.{◌≡◌, ◌≢◌, ◌≤◌, ◌∷◌, true, None, Ok, Err, IfErr, IfOk, OnOk, IfSome, IfNone, IsSome, length};
 ghost use Rattle.cert_view.specs.Text.{IsLine};
 ghost use Rattle.price_check.specs.Numbers.{prices_of};
 ghost use Rattle.price_check.specs.Exceeding.{IsExceeding};
@@ -43,6 +43,7 @@ pub(crate) fn ask_line(mill: &Mill, path: &mut Path, line: &Line<'_>) -> Result<
     ensures bad { IfErr result (IsNotAsked mill.now path.old.decisions line.now) }
     ensures orders { path.new.orders ≡ path.old.orders }
     ensures slabs { path.new.slabs ≡ path.old.slabs }
+    ensures other { result ≢ Err Why.Column }
 {
     match line {
         Line::Pair(numbers) => pair_line(mill, path, numbers),
@@ -77,6 +78,7 @@ pub(crate) fn pair_line(mill: &Mill, path: &mut Path, numbers: &Nums<'_>) -> Res
     ensures bad { IfErr result (FirstBroken (ask_rules (NamesPair (length mill.now.orders) numbers.now) path.old.decisions (pair_of numbers.now))) }
     ensures orders { path.new.orders ≡ path.old.orders }
     ensures slabs { path.new.slabs ≡ path.old.slabs }
+    ensures other { result ≢ Err Why.Column }
 {
     let Some(ask) = named_pair(mill.orders().len(), numbers) else {
         return Err(Why::Ask);
@@ -114,6 +116,7 @@ pub(crate) fn put_line(mill: &Mill, path: &mut Path, numbers: &Nums<'_>) -> Resu
     ensures bad { IfErr result (FirstBroken (ask_rules (NamesPut (length mill.now.orders) (length mill.now.yard) numbers.now) path.old.decisions (put_of numbers.now))) }
     ensures orders { path.new.orders ≡ path.old.orders }
     ensures slabs { path.new.slabs ≡ path.old.slabs }
+    ensures other { result ≢ Err Why.Column }
 {
     let Some(ask) = named_put(mill.orders().len(), mill.yard().len(), numbers) else {
         return Err(Why::Ask);

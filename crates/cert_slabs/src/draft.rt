@@ -1,5 +1,5 @@
 //! A plan while its slabs are read.
-ghost use Rattle.std.specs.Prelude.{◌≡◌, ◌≤◌, ◌<◌, ◌-◌, ◌↔◌, ◌++◌, ◌∷◌, [], false, true, List, IfOk, OnOk, IsTrue, drop, length, slice_index_or, sum_by, count_by};
+ghost use Rattle.std.specs.Prelude.{◌≡◌, ◌≢◌, Err, ◌≤◌, ◌<◌, ◌-◌, ◌↔◌, ◌++◌, ◌∷◌, [], false, true, List, IfOk, OnOk, IsTrue, drop, length, slice_index_or, sum_by, count_by};
 ghost use Rattle.std.specs.Bool.{OnTrue};
 ghost use Rattle.mill_model.specs.Columns.{Column, Rises, size_of as size_of_kind};
 ghost use Rattle.mill_model.specs.Judging.{is_among};
@@ -73,6 +73,7 @@ impl Draft {
         ensures rules { (slabs : List Column) → IsDraft mill.now slabs self.old → Answers (new_rules mill.now slabs numbers.now) result }
         ensures draft { OnOk result ((slabs : List Column) → IsDraft mill.now slabs self.old → IsDraft mill.now (slabs ++ new_slab_of numbers.now ∷ []) self.new) }
         ensures orders { length self.new.placed ≡ length mill.now.orders }
+        ensures other { result ≢ Err Why.Column }
     {
         let Some(size) = listed_size(mill, numbers.get(0)) else {
             return Err(Why::Size);
@@ -98,6 +99,7 @@ impl Draft {
         ensures rules { (slabs : List Column) → IsDraft mill.now slabs self.old → Answers (old_rules mill.now slabs numbers.now) result }
         ensures draft { OnOk result ((slabs : List Column) → IsDraft mill.now slabs self.old → IsDraft mill.now (slabs ++ old_slab_of numbers.now ∷ []) self.new) }
         ensures orders { length self.new.placed ≡ length mill.now.orders }
+        ensures other { result ≢ Err Why.Column }
     {
         let Some(slab) = named_slab(mill, numbers.get(0)) else {
             return Err(Why::Yard);
@@ -117,7 +119,8 @@ impl Draft {
     /// Tests the plan where it ends: each order lies on a slab, and the sums are these.
     pub fn test_plan(&self, mill: &Mill, sums: Sums) -> Result<(), Why>
         requires { length self.now.placed ≡ length mill.now.orders }
-        ensures { (slabs : List Column) → IsDraft mill.now slabs self.now → Answers (plan_rules mill.now sums slabs) result }
+        ensures rules { (slabs : List Column) → IsDraft mill.now slabs self.now → Answers (plan_rules mill.now sums slabs) result }
+        ensures other { result ≢ Err Why.Column }
     {
         if self.next < self.placed.len() {
             return Err(Why::Unplaced);

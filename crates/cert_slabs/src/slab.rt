@@ -1,5 +1,5 @@
 //! One slab: what a line's numbers name, and what the mill allows on it.
-ghost use Rattle.std.specs.Prelude.{◌≡◌, ◌≤◌, ◌<◌, ◌^◌, ◌↔◌, true, IfSome, IfNone, IsTrue, length};
+ghost use Rattle.std.specs.Prelude.{◌≡◌, ◌≢◌, Err, ◌≤◌, ◌<◌, ◌^◌, ◌↔◌, true, IfSome, IfNone, IsTrue, length};
 ghost use Rattle.mill_model.specs.Columns.{Rises, load, colours_of, has_barred, size_of as size_of_kind};
 ghost use Rattle.cert_rules.specs.Numbers.{Names, index, natural};
 ghost use Rattle.cert_rules.specs.Slabs.{IsListed, HasFewColours};
@@ -39,7 +39,8 @@ pub fn named_slab(mill: &Mill, number: i64) -> Option<u16>
 /// Tests what orders weigh together on a slab, how many colours they have, and on a surplus slab whether one is barred.
 pub fn test_slab(mill: &Mill, kind: Kind, orders: &[u16]) -> Result<(), Why>
     requires { Rises 0 (length mill.now.orders) orders.now }
-    ensures { Answers (slab_rules mill.now (record { kind = kind; orders = orders.now })) result }
+    ensures rules { Answers (slab_rules mill.now (record { kind = kind; orders = orders.now })) result }
+    ensures other { result ≢ Err Why.Column }
 {
     if load_of(mill, orders) > size_of(mill, kind) {
         return Err(Why::Load);
@@ -95,7 +96,8 @@ fn has_few_colours(mill: &Mill, orders: &[u16]) -> bool
 
 // Tests that no order is barred from a surplus slab.
 fn test_bars(mill: &Mill, slab: u16, orders: &[u16]) -> Result<(), Why>
-    ensures { Answers (bar_rules mill.now (record { kind = Kind.Old slab; orders = orders.now }) (Kind.Old slab)) result }
+    ensures rules { Answers (bar_rules mill.now (record { kind = Kind.Old slab; orders = orders.now }) (Kind.Old slab)) result }
+    ensures other { result ≢ Err Why.Column }
 {
     for order in orders {
         if mill.is_barred(*order, slab) {

@@ -1,5 +1,5 @@
 //! A spread while its shares are read.
-ghost use Rattle.std.specs.Prelude.{◌≡◌, ◌≤◌, ◌<◌, ◌*◌, ◌+◌, ◌^◌, ◌↔◌, ◌++◌, ◌∷◌, [], ℕ, pos, ◌≤ℤ◌, true, List, IfOk, OnOk, IsTrue, IfErr, length, sum, slice_index, unsigned_abs};
+ghost use Rattle.std.specs.Prelude.{◌≡◌, ◌≢◌, Err, ◌≤◌, ◌<◌, ◌*◌, ◌+◌, ◌^◌, ◌↔◌, ◌++◌, ◌∷◌, [], ℕ, pos, ◌≤ℤ◌, true, List, IfOk, OnOk, IsTrue, IfErr, length, sum, slice_index, unsigned_abs};
 ghost use Rattle.std.specs.Bool.{OnTrue};
 ghost use Rattle.mill_model.specs.Columns.{Rises, has};
 ghost use Rattle.mill_model.specs.Shares.{Share};
@@ -67,6 +67,7 @@ impl Tally {
         ensures tally { OnOk result ((m : Mill) → IsTally m (number_at numbers.now 0) [] self.new) }
         ensures orders { length self.new.covered ≡ length self.old.covered }
         ensures slabs { length self.new.used ≡ length self.old.used }
+        ensures other { result ≢ Err Why.Column }
     {
         let d = numbers.get(0);
         if d < 1 {
@@ -113,8 +114,9 @@ impl Tally {
     /// Tests the spread where it ends: it covers each order, and stays within the limits.
     pub fn test_cover(&self, limits: Limits) -> Result<(), Why>
         requires { AreFair limits }
-        ensures { (m : Mill) (shares : List Share) → length self.now.covered ≡ length m.orders → IsTally m self.now.d shares self.now →
+        ensures rules { (m : Mill) (shares : List Share) → length self.now.covered ≡ length m.orders → IsTally m self.now.d shares self.now →
             Answers (cover_rules m limits (unsigned_abs self.now.d) shares) result }
+        ensures other { result ≢ Err Why.Column }
     {
         if !are_all(&self.covered, self.d) {
             return Err(Why::Cover);
@@ -146,6 +148,7 @@ pub fn read_new_share(
     requires { 3 ≤ length numbers.now }
     ensures rules { Answers (new_share_front mill.now numbers.now) result }
     ensures read { IfOk result (λ r. IsRead mill.now (share_of_new numbers.now) r.0 r.1 roster.new) }
+    ensures other { result ≢ Err Why.Column }
 {
     let times = numbers.get(0);
     if times < 1 {
@@ -172,6 +175,7 @@ pub fn read_old_share(
     requires { 3 ≤ length numbers.now }
     ensures rules { Answers (old_share_front mill.now numbers.now) result }
     ensures read { IfOk result (λ r. IsRead mill.now (share_of_old numbers.now) r.0 r.1 roster.new) }
+    ensures other { result ≢ Err Why.Column }
 {
     let times = numbers.get(0);
     if times < 1 {
