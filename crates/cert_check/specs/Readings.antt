@@ -148,11 +148,17 @@ pub record IsGoodHeld (old new : Machine) (held : List ℕ) : Type 0 where
   pub read : next_line held ≡ Some (Ok line)
   pub goes_on : GoesOn old new line
 
+-- a held line that is bad, with the rule that it breaks
+pub record IsRefusedHeld (old new : Machine) (held : List ℕ) (broken : Why) : Type 0 where
+  pub whole : IsWhole held
+  pub bad : (state : State) → Keeps old.mill old.kept state → IsBadLine old.mill old.wanted state (next_line held) broken
+  pub found : broken ≡ why.Column → (line : Line) × (next_line held ≡ Some (Ok line)) × HasFound old new line
+
 -- what has become of a held line
-abbrev pub IsStep : Machine → Machine → List ℕ → Option (Result (Unit {0}) LineWhy) → Type 0
+abbrev pub IsStep : Machine → Machine → List ℕ → Option (Result (Unit {0}) Why) → Type 0
 IsStep old new held None = IsPart held × (new ≡ old)
 IsStep old new held (Some (Ok done)) = IsGoodHeld old new held
-IsStep old new held (Some (Err broken)) = IsBadHeld old held broken
+IsStep old new held (Some (Err broken)) = IsRefusedHeld old new held broken
 
 -- the reader had taken a piece, and now stands for it too
 abbrev pub IsFinished : Reading → Reading → Type 0

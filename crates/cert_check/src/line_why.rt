@@ -1,5 +1,6 @@
-ghost use Rattle.std.specs.Prelude.{◌≡◌};
+ghost use Rattle.std.specs.Prelude.{◌≡◌, ◌≢◌, Option};
 
+use cert_rules::Why;
 use mill_model::Kind;
 use std::marker::Model;
 
@@ -95,4 +96,46 @@ pub enum LineWhy {
     Loss,
     /// A spread opens more new slabs than its limit.
     New,
+}
+
+impl LineWhy {
+    ghost use Rattle.mill_model.specs.Columns.{Column};
+    ghost use Rattle.cert_check.specs.Held.{CarriesColumn};
+    ghost use Rattle.cert_check.specs.Whys.{why_of};
+
+    // A why without a column.
+    pub(crate) fn plain(why: Why) -> LineWhy
+        requires { why ≢ Why.Column }
+        ensures why { why_of result ≡ why }
+        ensures no_column { (bad : Option Column) → CarriesColumn bad result }
+    {
+        match why {
+            Why::Extra => LineWhy::Extra,
+            Why::End => LineWhy::End,
+            Why::Spelling => LineWhy::Spelling,
+            Why::Range => LineWhy::Range,
+            Why::Expect => LineWhy::Expect,
+            Why::Order => LineWhy::Order,
+            Why::Size => LineWhy::Size,
+            Why::Place => LineWhy::Place,
+            Why::Load => LineWhy::Load,
+            Why::Colours => LineWhy::Colours,
+            Why::Yard => LineWhy::Yard,
+            Why::Twice => LineWhy::Twice,
+            Why::Barred => LineWhy::Barred,
+            Why::Unplaced => LineWhy::Unplaced,
+            Why::Sums => LineWhy::Sums,
+            Why::Ask => LineWhy::Ask,
+            Why::Repeat => LineWhy::Repeat,
+            Why::Count => LineWhy::Count,
+            Why::Sign => LineWhy::Sign,
+            Why::Missing => LineWhy::Missing,
+            Why::Sum => LineWhy::Sum,
+            Why::Agree => LineWhy::Agree,
+            Why::Cover => LineWhy::Cover,
+            Why::Loss => LineWhy::Loss,
+            Why::New => LineWhy::New,
+            Why::Column => unreachable!(),
+        }
+    }
 }

@@ -1,5 +1,6 @@
 //! The line machine: a line after another, and what can stand next.
-ghost use Rattle.std.specs.Prelude.{◌≡◌, Err, [], true, false, IfOk, IsSome, Some, if◌then◌else◌};
+ghost use Rattle.std.specs.Prelude.{◌≡◌, Err, [], true, false, IfOk, Some, length, ◌≤◌, if◌then◌else◌};
+ghost use Rattle.cert_check.specs.Held.{HasColumn};
 ghost use Rattle.cert_check.specs.Machines.{IsFitted};
 ghost use Rattle.cert_view.specs.declared.line.Line.TheVariants as lines;
 ghost use Rattle.cert_view.specs.Text.{IsLine};
@@ -17,7 +18,7 @@ use crate::tree::{ask_line, can_begin, is_ask, leaf_line};
 use cert_rules::Why;
 use cert_slabs::{Draft, Roster, Tally};
 use cert_view::{Line, Nums};
-use mill_model::{Kind, Mill, Version};
+use mill_model::{Kind, MOST_ORDERS, Mill, Version};
 use price_check::Path;
 use std::alloc::{AllocError, Global};
 
@@ -77,11 +78,14 @@ impl<'m> Machine<'m> {
         self.points.into_points()
     }
 
-    // The column that the leaf exceeds that was tested last.
+    // The column that exceeds the leaf that was tested last.
     pub(crate) fn bad_column(&self) -> (Kind, &[u16])
-        requires { IsSome (seen self.now).bad }
-        ensures { (seen self.now).bad ≡ Some (record { kind = result.0; orders = result.1.now }) }
+        requires { HasColumn (seen self.now) }
+        ensures column { (seen self.now).bad ≡ Some (record { kind = result.0; orders = result.1.now }) }
+        ensures few { length result.1.now ≤ 250 }
     {
+        let orders = self.mill.orders().len();
+        prove!(orders <= MOST_ORDERS as usize);
         self.path.bad_column()
     }
 
