@@ -1,5 +1,5 @@
 -- A held line: what has become of it, and for which bytes the reader then stands.
-use Rattle.std.proofs.Common.{◌≡◌, ℕ, ◌+◌, ◌-◌, ◌^◌, ◌<◌, ℤ, List, [], ◌∷◌, ◌++◌, length, min, Option, Some, None, Result, Ok, Err, refl, sym, ap, ◌∙◌, subst, arith, append_assoc}
+use Rattle.std.proofs.Common.{◌≡◌, ℕ, ◌+◌, ◌-◌, ◌*◌, ◌^◌, ◌<◌, ◌≤◌, ℤ, inl, inr, List, [], ◌∷◌, ◌++◌, length, min, Option, Some, None, Result, Ok, Err, refl, sym, ap, ◌∙◌, subst, arith, append_assoc}
 use Rattle.mill_model.specs.declared.kind.Kind.{Kind}
 use Rattle.mill_model.specs.Mill.{Mill}
 use Rattle.mill_model.specs.Columns.{Column}
@@ -22,15 +22,23 @@ use Rattle.cert_rules.specs.States.State.{Begin}
 use Rattle.cert_rules.specs.Turns.{after}
 use Rattle.cert_rules.specs.Reading.{Reads, IsBadLine, number_after}
 use Rattle.cert_rules.proofs.Standing.{failures_stay}
+use Rattle.cert_rules.specs.States.Outcome.{Proved, Unfinished}
+use Rattle.cert_rules.specs.States.State.{BetweenPoints, InPlan, InTree, InOpenTree, Ended}
+use Rattle.cert_rules.specs.Turns.{line_next}
+use Rattle.cert_rules.specs.Stands.{HasFailed}
+use Rattle.cert_rules.specs.Stands.Progress.{Running, Failed}
+use Rattle.cert_rules.proofs.Room.{room_falls}
 use Rattle.cert_check.specs.declared.failure.Failure.{Failure}
 use Rattle.cert_check.specs.declared.line_why.LineWhy.{LineWhy}
 use Rattle.cert_check.specs.declared.line_why.LineWhy.TheVariants as carried
+use Rattle.cert_check.specs.declared.phase.Phase.{Phase}
 use Rattle.cert_check.specs.declared.phase.Phase.TheVariants as phases
 use Rattle.cert_check.specs.Whys.{why_of}
 use Rattle.cert_check.specs.Verdicts.{ExceedsAt, CarriesExceeding, path_of}
-use Rattle.cert_check.specs.Kept.{Kept}
-use Rattle.cert_check.specs.Readings.{Reading, Machine, Runs, Fails, Stands, StandsBy, CarriesFor, IsBadHeld, IsGoodHeld, IsFinished}
-use Rattle.cert_check.proofs.Readings.{part_taken, line_taken, bad_taken}
+use Rattle.cert_check.specs.Kept.{Kept, Keeps}
+use Rattle.cert_check.specs.Readings.{Reading, Machine, Runs, Fails, HasLessRoom, phase_room, CarriesFor, HasFound, IsSameReader, IsBadHeld, IsGoodHeld, IsRefusedHeld}
+use Rattle.cert_check.specs.Held.{CarriesColumn, IsOver}
+use Rattle.cert_check.proofs.Readings.{not_ended, part_taken, line_taken, bad_taken, extra_after_proved, extra_after_cut, room_is}
 
 -- ---- failures stay
 
@@ -87,6 +95,57 @@ fails_more wanted m failure bytes more h = record { failed = failures_stay m wan
 
 -- ---- the column that a bad leaf carries
 
+path_kept : (m : Mill) (k : Kept) (state : State) → Keeps m k state → k.path ≡ path_of state
+path_kept m k Begin h = h.2
+path_kept m k (BetweenPoints version points) h = h.3
+path_kept m k (InPlan version before sums slabs) h = h.3
+path_kept m k (InTree goal stage path) h = h.2
+path_kept m k (InOpenTree points path) h = h.2
+path_kept m k (Ended Proved points) h = h.2
+path_kept m k (Ended Unfinished points) h = h.2
+
+-- a refusal, with the column that was found
+pub refused_is_bad : (old new : Machine) (held : List ℕ) (broken : Why) (full : LineWhy) → IsRefusedHeld old new held broken → why_of full ≡ broken → CarriesColumn new.bad full → IsBadHeld old held full
+refused_is_bad old new held broken full refused e carries = record {
+  whole = refused.whole;
+  bad = λ state h. subst (λ w. IsBadLine old.mill old.wanted state (next_line held) w) (sym e) (refused.bad state h);
+  column = λ state line h read. column_at full e carries state line h read;
+}
+  where
+    column_at : (full : LineWhy) → why_of full ≡ broken → CarriesColumn new.bad full → (state : State) (line : Line) → Keeps old.mill old.kept state → next_line held ≡ Some (Ok line) → CarriesFor old.mill state line full
+    column_at (carried.Column kind orders) e carries state line h read =
+        let found = refused.found (sym e) in
+        let same : line ≡ found.0 = cc (read, found.1) in
+        let is : found.2.column ≡ record { kind = kind; orders = orders } = cc (found.2.bad, carries) in
+        (found.2.numbers, same ∙ found.2.leaf,
+         subst (λ c. IsExceeding old.mill (path_of state) (prices_of (length old.mill.orders) found.2.numbers) c) is
+         (subst (λ path. IsExceeding old.mill path (prices_of (length old.mill.orders) found.2.numbers) found.2.column) (path_kept old.mill old.kept state h) found.2.exceeds))
+    column_at carried.Extra e carries state line h read = tt
+    column_at carried.End e carries state line h read = tt
+    column_at carried.Spelling e carries state line h read = tt
+    column_at carried.Range e carries state line h read = tt
+    column_at carried.Expect e carries state line h read = tt
+    column_at carried.Order e carries state line h read = tt
+    column_at carried.Size e carries state line h read = tt
+    column_at carried.Place e carries state line h read = tt
+    column_at carried.Load e carries state line h read = tt
+    column_at carried.Colours e carries state line h read = tt
+    column_at carried.Yard e carries state line h read = tt
+    column_at carried.Twice e carries state line h read = tt
+    column_at carried.Barred e carries state line h read = tt
+    column_at carried.Unplaced e carries state line h read = tt
+    column_at carried.Sums e carries state line h read = tt
+    column_at carried.Ask e carries state line h read = tt
+    column_at carried.Repeat e carries state line h read = tt
+    column_at carried.Count e carries state line h read = tt
+    column_at carried.Sign e carries state line h read = tt
+    column_at carried.Missing e carries state line h read = tt
+    column_at carried.Sum e carries state line h read = tt
+    column_at carried.Agree e carries state line h read = tt
+    column_at carried.Cover e carries state line h read = tt
+    column_at carried.Loss e carries state line h read = tt
+    column_at carried.New e carries state line h read = tt
+
 -- only a line that is read breaks the rule of columns
 leaf_read : (m : Mill) (wanted : Wanted) (state : State) (read : Option (Result Line Spelling)) → IsBadLine m wanted state read why.Column → (line : Line) × (read ≡ Some (Ok line))
 leaf_read m wanted state None h = cc
@@ -94,28 +153,33 @@ leaf_read m wanted state (Some (Err spellings.Form)) h = cc
 leaf_read m wanted state (Some (Err spellings.Range)) h = cc
 leaf_read m wanted state (Some (Ok line)) h = (line, refl)
 
-abbrev machine_of : Reading → Machine
-machine_of r = record { mill = r.mill; wanted = r.wanted; kept = r.kept }
+-- ---- what a machine's reader stands for
 
-module _ (old : Reading) (bytes earlier piece : List ℕ) (e : old.held ≡ earlier ++ piece) (h : Runs old.wanted (record old { held = earlier }) bytes) where
-  column_exceeds : (kind : Kind) (orders : List ℕ) → IsBadHeld (machine_of old) old.held (carried.Column kind orders) → ExceedsAt old.mill old.wanted (bytes ++ piece) (number_after old.count) (record { kind = kind; orders = orders })
+abbrev pub reading_of : Machine → ℕ → List ℕ → Option Failure → Reading
+reading_of machine count held failed = record { mill = machine.mill; wanted = machine.wanted; kept = machine.kept; count = count; held = held; failed = failed }
+
+module _ (was : Machine) (count : ℕ) (earlier piece bytes : List ℕ) (h : Runs was.wanted (reading_of was count earlier None) bytes) where
+  abbrev old : Reading
+  old = reading_of was count earlier None
+
+  column_exceeds : (kind : Kind) (orders : List ℕ) → IsBadHeld was (earlier ++ piece) (carried.Column kind orders) → ExceedsAt was.mill was.wanted (bytes ++ piece) (number_after count) (record { kind = kind; orders = orders })
   column_exceeds kind orders bad =
-      let read = leaf_read old.mill old.wanted h.state (next_line old.held) (bad.bad h.state h.keeps) in
+      let read = leaf_read was.mill was.wanted h.state (next_line (earlier ++ piece)) (bad.bad h.state h.keeps) in
       let found = bad.column h.state read.0 h.keeps read.1 in
       record {
         before = h.running.before;
         rest = earlier ++ piece;
         numbers = found.0;
-        reads = reads_more old.mill old.wanted bytes earlier piece h.running.before h.running.reads;
+        reads = reads_more was.mill was.wanted bytes earlier piece h.running.before h.running.reads;
         counted = ap number_after h.running.counted ∙ stands_still (length h.running.before);
-        leaf = ap next_line (sym e) ∙ read.1 ∙ ap (λ line. Some (Ok line)) found.1;
-        exceeds = subst (λ s. IsExceeding old.mill (path_of s) (prices_of (length old.mill.orders) found.0) (record { kind = kind; orders = orders })) h.running.state_is found.2;
+        leaf = read.1 ∙ ap (λ line. Some (Ok line)) found.1;
+        exceeds = subst (λ s. IsExceeding was.mill (path_of s) (prices_of (length was.mill.orders) found.0) (record { kind = kind; orders = orders })) h.running.state_is found.2;
       }
     where
       stands_still : (n : ℕ) → number_after (min n (2 ^ 64 - 1)) ≡ number_after n
       stands_still n = omega arith
 
-  carries : (broken : LineWhy) → IsBadHeld (machine_of old) old.held broken → CarriesExceeding old.mill old.wanted (bytes ++ piece) (number_after old.count) broken
+  carries : (broken : LineWhy) → IsBadHeld was (earlier ++ piece) broken → CarriesExceeding was.mill was.wanted (bytes ++ piece) (number_after count) broken
   carries (carried.Column kind orders) bad = column_exceeds kind orders bad
   carries carried.Extra bad = tt
   carries carried.End bad = tt
@@ -143,25 +207,59 @@ module _ (old : Reading) (bytes earlier piece : List ℕ) (e : old.held ≡ earl
   carries carried.Loss bad = tt
   carries carried.New bad = tt
 
--- ---- what has become of the held line
+  -- a byte after the end
+  pub extra_stands : IsOver was.kept.phase → 0 < length piece → Fails was.wanted was.mill (record { line = number_after count; why = carried.Extra }) (bytes ++ piece)
+  extra_stands over some = record { failed = at was.kept.phase refl over; column = tt }
+    where
+      at : (phase : Phase) → was.kept.phase ≡ phase → IsOver phase → HasFailed was.mill was.wanted (bytes ++ piece) (number_after count) why.Extra
+      at phases.Proved e o = extra_after_proved was.wanted old bytes piece h e some
+      at phases.Unfinished e o = extra_after_cut was.wanted old bytes piece h e some
+      at phases.Begin e o = absurd o
+      at phases.Between e o = absurd o
+      at phases.Plan e o = absurd o
+      at (phases.Tree rest) e o = absurd o
+      at (phases.Question rest) e o = absurd o
+      at (phases.Spread rest) e o = absurd o
+      at phases.Open e o = absurd o
 
-module _ (old : Reading) (unproved : old.kept.phase ≡ phases.Proved → ⊥) (uncut : old.kept.phase ≡ phases.Unfinished → ⊥) where
-  -- it isn't whole yet
-  pub finished_part : old.failed ≡ None → IsPart old.held → IsFinished old old
-  finished_part none part bytes earlier piece e h =
-      subst (λ o. StandsBy old.wanted old o (bytes ++ piece)) (sym none)
-      (subst (λ held. Runs old.wanted (record old { held = held }) (bytes ++ piece)) (sym e) (part_taken old.wanted (record old { held = earlier }) bytes piece h unproved uncut (subst IsPart e part)))
+  module _ (going : IsOver was.kept.phase → ⊥) where
+    unproved : was.kept.phase ≡ phases.Proved → ⊥
+    unproved e = going (subst IsOver (sym e) tt)
 
-  -- it keeps its rules
-  pub finished_good : (kept : Kept) → old.failed ≡ None → IsGoodHeld (machine_of old) (record { mill = old.mill; wanted = old.wanted; kept = kept }) old.held → IsFinished old (record old { kept = kept; count = number_after old.count; held = [] })
-  finished_good kept none good bytes earlier piece e h =
-      let step = good.goes_on h.state h.keeps in
-      subst (λ o. StandsBy old.wanted (record old { kept = kept; count = number_after old.count; held = [] }) o (bytes ++ piece)) (sym none)
-      (line_taken old.wanted (record old { held = earlier }) bytes piece h kept good.line unproved uncut (subst IsWhole e good.whole) (ap next_line (sym e) ∙ good.read) step.0 step.1)
+    uncut : was.kept.phase ≡ phases.Unfinished → ⊥
+    uncut e = going (subst IsOver (sym e) tt)
 
-  -- it is bad
-  pub finished_bad : (broken : LineWhy) → IsBadHeld (machine_of old) old.held broken → IsFinished old (record old { failed = Some (record { line = number_after old.count; why = broken }) })
-  finished_bad broken bad bytes earlier piece e h = record {
-    failed = bad_taken old.wanted (record old { held = earlier }) bytes piece h (why_of broken) unproved uncut (subst IsWhole e bad.whole) (subst (λ r. IsBadLine old.mill old.wanted h.state r (why_of broken)) (ap next_line e) (bad.bad h.state h.keeps));
-    column = carries old bytes earlier piece e h broken bad;
-  }
+    -- less than a line
+    pub part_stands : IsPart (earlier ++ piece) → Runs was.wanted (reading_of was count (earlier ++ piece) None) (bytes ++ piece)
+    part_stands part = part_taken was.wanted old bytes piece h unproved uncut part
+
+    pub part_room : IsPart (earlier ++ piece) → HasLessRoom old (reading_of was count (earlier ++ piece) None) (length piece)
+    part_room part = elim (room_falls was.mill was.wanted (Running h.state count earlier) (Running h.state count (earlier ++ piece)) piece (inr (inl (not_ended was.wanted old bytes piece h unproved uncut, part, refl)))) [
+      | inl failed ↦ absurd failed
+      | inr less ↦ inr (subst (λ n. 8192 * n - length (earlier ++ piece) + length piece ≤ 8192 * n - length earlier) (sym (room_is was.mill was.kept h.state h.keeps)) less)
+    ]
+
+    module _ (now : Machine) (same : IsSameReader was now) (good : IsGoodHeld was now (earlier ++ piece)) where
+      -- a line that keeps its rules
+      pub line_stands : Runs now.wanted (reading_of now (number_after count) [] None) (bytes ++ piece)
+      line_stands =
+          let step = good.goes_on h.state h.keeps in
+          let P : Mill → Wanted → Type 0 = λ m w. Runs w (record { mill = m; wanted = w; kept = now.kept; count = number_after count; held = []; failed = None }) (bytes ++ piece) in
+          subst (λ m. P m now.wanted) (sym same.mill) (subst (λ w. P was.mill w) (sym same.wanted) (line_taken was.wanted old bytes piece h now.kept good.line unproved uncut good.whole good.read step.0 step.1))
+
+      pub line_room : HasLessRoom old (reading_of now (number_after count) [] None) (length piece)
+      line_room =
+          let step = good.goes_on h.state h.keeps in
+          let next : State = line_next was.mill was.wanted h.state good.line in
+          elim (room_falls was.mill was.wanted (Running h.state count earlier) (Running next (number_after count) []) piece (inr (inr (not_ended was.wanted old bytes piece h unproved uncut, inl (record { whole = good.whole; line = good.line; read = good.read; kept = step.0; next_is = refl }))))) [
+            | inl failed ↦ absurd failed
+            | inr less ↦ inr (subst (λ m. 8192 * phase_room m now.kept now.kept.phase - 0 + length piece ≤ 8192 * phase_room was.mill was.kept was.kept.phase - length earlier) (sym same.mill)
+                (rw (room_is was.mill was.kept h.state h.keeps, room_is was.mill now.kept next step.1) less))
+          ]
+
+    -- a line that is bad
+    pub bad_stands : (broken : LineWhy) → IsBadHeld was (earlier ++ piece) broken → Fails was.wanted was.mill (record { line = number_after count; why = broken }) (bytes ++ piece)
+    bad_stands broken bad = record {
+      failed = bad_taken was.wanted old bytes piece h (why_of broken) unproved uncut bad.whole (bad.bad h.state h.keeps);
+      column = carries broken bad;
+    }

@@ -31,33 +31,11 @@ use Rattle.cert_check.specs.declared.phase.Phase.{Phase}
 use Rattle.cert_check.specs.declared.phase.Phase.TheVariants as phases
 use Rattle.cert_check.specs.Kept.{Kept, Keeps, IsStage, is_rest}
 use Rattle.cert_check.specs.Readings.{Reading, Runs, phase_room, tree_room}
+use Rattle.cert_check.proofs.States.{proved_state, unfinished_state}
 
 -- ---- phases and states
 
 module _ (m : Mill) (k : Kept) where
-  -- a state that has ended has its phase, and no other has it
-  proved_state : (state : State) → Keeps m k state → k.phase ≡ phases.Proved → state ≡ Ended Proved (reverse k.points)
-  proved_state (Ended Proved points) h e = ap (λ xs. Ended Proved xs) (sym h.1)
-  proved_state (Ended Unfinished points) h e = let f : phases.Unfinished ≡ phases.Proved = sym h.0 ∙ e in cc
-  proved_state Begin h e = let f : phases.Begin ≡ phases.Proved = sym h.0 ∙ e in cc
-  proved_state (BetweenPoints version points) h e = let f : phases.Between ≡ phases.Proved = sym h.0 ∙ e in cc
-  proved_state (InPlan version before sums slabs) h e = let f : phases.Plan ≡ phases.Proved = sym h.0 ∙ e in cc
-  proved_state (InTree goal Begins path) h e = let f : phases.Tree (is_rest goal.owner) ≡ phases.Proved = sym h.3 ∙ e in cc
-  proved_state (InTree goal Marked path) h e = let f : phases.Question (is_rest goal.owner) ≡ phases.Proved = sym h.3 ∙ e in cc
-  proved_state (InTree goal (InSpread d shares) path) h e = let f : phases.Spread (is_rest goal.owner) ≡ phases.Proved = sym h.3.0 ∙ e in cc
-  proved_state (InOpenTree points path) h e = let f : phases.Open ≡ phases.Proved = sym h.0 ∙ e in cc
-
-  unfinished_state : (state : State) → Keeps m k state → k.phase ≡ phases.Unfinished → state ≡ Ended Unfinished (reverse k.points)
-  unfinished_state (Ended Unfinished points) h e = ap (λ xs. Ended Unfinished xs) (sym h.1)
-  unfinished_state (Ended Proved points) h e = let f : phases.Proved ≡ phases.Unfinished = sym h.0 ∙ e in cc
-  unfinished_state Begin h e = let f : phases.Begin ≡ phases.Unfinished = sym h.0 ∙ e in cc
-  unfinished_state (BetweenPoints version points) h e = let f : phases.Between ≡ phases.Unfinished = sym h.0 ∙ e in cc
-  unfinished_state (InPlan version before sums slabs) h e = let f : phases.Plan ≡ phases.Unfinished = sym h.0 ∙ e in cc
-  unfinished_state (InTree goal Begins path) h e = let f : phases.Tree (is_rest goal.owner) ≡ phases.Unfinished = sym h.3 ∙ e in cc
-  unfinished_state (InTree goal Marked path) h e = let f : phases.Question (is_rest goal.owner) ≡ phases.Unfinished = sym h.3 ∙ e in cc
-  unfinished_state (InTree goal (InSpread d shares) path) h e = let f : phases.Spread (is_rest goal.owner) ≡ phases.Unfinished = sym h.3.0 ∙ e in cc
-  unfinished_state (InOpenTree points path) h e = let f : phases.Open ≡ phases.Unfinished = sym h.0 ∙ e in cc
-
   -- a state that has ended has one of the two phases
   pub ended_phase : (state : State) → Keeps m k state → HasEnded state → (k.phase ≡ phases.Proved) ⊎ (k.phase ≡ phases.Unfinished)
   ended_phase (Ended Proved points) h e = inl h.0
@@ -114,7 +92,7 @@ runs_has_no_bad_line wanted r bytes n broken h k = running_is_no_failure r.mill 
 -- ---- pieces
 
 module _ (wanted : Wanted) (r : Reading) (bytes piece : List ℕ) (h : Runs wanted r bytes) where
-  not_ended : (r.kept.phase ≡ phases.Proved → ⊥) → (r.kept.phase ≡ phases.Unfinished → ⊥) → HasEnded h.state → ⊥
+  pub not_ended : (r.kept.phase ≡ phases.Proved → ⊥) → (r.kept.phase ≡ phases.Unfinished → ⊥) → HasEnded h.state → ⊥
   not_ended a b e = elim (ended_phase r.mill r.kept h.state h.keeps e) [
     | inl p ↦ a p
     | inr p ↦ b p

@@ -159,7 +159,3 @@ abbrev pub IsStep : Machine → Machine → List ℕ → Option (Result (Unit {0
 IsStep old new held None = IsPart held × (new ≡ old)
 IsStep old new held (Some (Ok done)) = IsGoodHeld old new held
 IsStep old new held (Some (Err broken)) = IsRefusedHeld old new held broken
-
--- the reader had taken a piece, and now stands for it too
-abbrev pub IsFinished : Reading → Reading → Type 0
-IsFinished old new = (bytes earlier piece : List ℕ) → old.held ≡ earlier ++ piece → Runs old.wanted (record old { held = earlier }) bytes → Stands new (bytes ++ piece)

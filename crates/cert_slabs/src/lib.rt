@@ -8,7 +8,9 @@ mod colours;
 mod draft;
 mod roster;
 mod slab;
+mod tally;
 
 pub use draft::Draft;
 pub use roster::Roster;
 pub use slab::{listed_size, named_slab, test_slab};
+pub use tally::{Tally, read_new_share, read_old_share};
