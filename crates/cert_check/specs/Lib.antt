@@ -8,3 +8,4 @@ pub mod Readings
 pub mod Machines
 pub mod Seen
 pub mod Held
+pub mod Endings

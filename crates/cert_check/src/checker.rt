@@ -7,6 +7,8 @@ ghost use Rattle.cert_rules.specs.Verdicts.{IsVerdict, BeginTheFront};
 ghost use Rattle.cert_check.specs.Verdicts.{said_of, CarriesExceeding, OnFront, OnNoPlan, OnCut, OnNo};
 
 use crate::Verdict;
+use crate::ending::Ending;
+use crate::reader::Reader;
 use mill_model::Mill;
 use std::alloc::{AllocError, Global};
 use std::marker::Model;
@@ -15,37 +17,18 @@ use std::marker::Model;
 /// path down the tree and the sums of a spread, whatever the certificate's length.
 #[derive(Drop)]
 pub struct Checker<'m> {
-    mill: &'m Mill,
+    reader: Reader<'m>,
 }
 
 impl<'m> Model for Checker<'m> {
-    ghost use Rattle.std.specs.Prelude.{[], None};
     ghost use Rattle.cert_rules.specs.States.Wanted.{All};
-    ghost use Rattle.mill_model.specs.declared.version.Version.TheVariants.{One};
-    ghost use Rattle.cert_check.specs.declared.phase.Phase.TheVariants as phases;
     ghost use Rattle.cert_check.specs.Readings.{Reading};
 
     ghost Value = { Reading };
 
-    ghost use Rattle.std.specs.Prelude.{pos};
+    ghost view = { λ c. c.reader.reading };
 
-    ghost view = { λ c. record {
-      mill = c.mill.now;
-      wanted = All;
-      kept = record {
-        version = One;
-        points = [];
-        phase = phases.Begin;
-        draft = record { kinds = []; placed = [] };
-        tally = record { d = pos 1; count = 0; covered = []; used = []; lost = 0; opened = 0 };
-        path = [];
-      };
-      count = 0;
-      held = [];
-      failed = None;
-    } };
-
-    ghost invariant = { λ c. ⊥ };
+    ghost invariant = { λ c. c.reader.reading.wanted ≡ All };
 }
 
 impl<'m> Checker<'m> {
@@ -56,9 +39,8 @@ impl<'m> Checker<'m> {
         ensures stands { IfOk result (λ c. Stands c []) }
         ensures mill { IfOk result (λ c. c.mill ≡ mill.now) }
     {
-        let _mill = mill;
-        let _alloc = alloc;
-        Err(AllocError)
+        let reader = Reader::new(alloc, mill, false)?;
+        Ok(Checker { reader })
     }
 
     /// Takes more bytes. However they were cut, the checker stands for all bytes that it was fed. Unless a line is bad, the
@@ -68,19 +50,16 @@ impl<'m> Checker<'m> {
         ensures room { (bytes : List ℕ) → Stands self.old bytes → HasLessRoom self.old self.new (length piece.now) }
         ensures mill { self.new.mill ≡ self.old.mill }
     {
-        let _mill = self.mill;
-        let _piece = piece;
-        unreachable!()
+        self.reader.feed(piece);
     }
 
     /// Whether a line is bad, so that no further bytes make a good certificate: a whole line breaks a rule or can't be
     /// read, or 8,192 bytes came without a line feed, or a byte follows the end of the text.
     pub fn failed(&self) -> bool
         ensures value { result ≡ is_some self.now.failed }
-        ensures exact { (bytes : List ℕ) → Stands self.now bytes → IsTrue result ↔ HasBadLine All self.now.mill bytes }
+        ensures exact { (bytes : List ℕ) → Stands self.now bytes → (IsTrue result ↔ HasBadLine All self.now.mill bytes) }
     {
-        let _mill = self.mill;
-        unreachable!()
+        self.reader.failed()
     }
 
     /// What the bytes show that the checker was fed.
@@ -88,8 +67,20 @@ impl<'m> Checker<'m> {
         ensures verdict { (bytes : List ℕ) → Stands self.entry bytes → IsVerdict self.entry.mill bytes (said_of result) }
         ensures column { (bytes : List ℕ) → Stands self.entry bytes → OnNo result (CarriesExceeding self.entry.mill All bytes) }
     {
-        let _mill = self.mill;
-        unreachable!()
+        match self.reader.end() {
+            Err(failure) => Verdict::No {
+                line: failure.line,
+                why: failure.why,
+            },
+            Ok(Ending::Unfinished(points)) => Verdict::Cut(points),
+            Ok(Ending::Proved(points)) => {
+                if points.list().is_empty() {
+                    Verdict::NoPlan
+                } else {
+                    Verdict::Front(points)
+                }
+            }
+        }
     }
 }
 

@@ -5,6 +5,7 @@
 #![tactic(auto)]
 
 mod checker;
+mod ending;
 mod failure;
 mod line_why;
 mod machine;

@@ -1,6 +1,8 @@
 //! The line machine: a line after another, and what can stand next.
 ghost use Rattle.std.specs.Prelude.{◌≡◌, Err, [], true, false, IfOk, Some, length, ◌≤◌, if◌then◌else◌};
-ghost use Rattle.cert_check.specs.Held.{HasColumn};
+ghost use Rattle.cert_check.specs.Held.{HasColumn, IsOver};
+ghost use Rattle.mill_model.specs.Mill.{IsInLimits};
+ghost use Rattle.cert_check.specs.Endings.{IsEndingOf};
 ghost use Rattle.cert_check.specs.Machines.{IsFitted};
 ghost use Rattle.cert_view.specs.declared.line.Line.TheVariants as lines;
 ghost use Rattle.cert_view.specs.Text.{IsLine};
@@ -10,7 +12,7 @@ ghost use Rattle.cert_check.specs.Kept.{Keeps};
 ghost use Rattle.cert_check.specs.Lines.{IsNoSlab, IsNoLeaf, IsNoShare};
 ghost use Rattle.cert_check.specs.Readings.{HasFound, IsTurn, IsSameReader, wanted_of};
 
-use crate::Points;
+use crate::ending::Ending;
 use crate::phase::Phase;
 use crate::staircase::Staircase;
 use crate::spread::{new_share, old_share};
@@ -71,11 +73,20 @@ impl<'m> Machine<'m> {
         self.phase
     }
 
-    // The points so far.
-    pub(crate) fn into_points(self) -> Points
-        ensures { result ≡ (seen self.entry).kept.points }
+    // How the text has ended, with the points.
+    pub(crate) fn into_ending(self) -> Ending
+        requires { IsOver (seen self.entry).kept.phase }
+        ensures ending { IsEndingOf (seen self.entry).kept result }
+        ensures limits { IsInLimits (seen self.entry).mill }
     {
-        self.points.into_points()
+        let orders = self.mill.orders().len();
+        prove!(orders <= MOST_ORDERS as usize);
+        let points = self.points.into_points();
+        if self.phase == Phase::Proved {
+            Ending::Proved(points)
+        } else {
+            Ending::Unfinished(points)
+        }
     }
 
     // The column that exceeds the leaf that was tested last.

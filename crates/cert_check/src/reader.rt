@@ -1,17 +1,21 @@
 //! Bytes in pieces, line by line.
-ghost use Rattle.std.specs.Prelude.{◌≡◌, ◌<◌, ◌≤◌, ◌↔◌, ◌++◌, [], ℕ, List, Err, IfOk, IsTrue, None, is_some, length, take, vec_capacity};
+ghost use Rattle.std.specs.Prelude.{◌≡◌, ◌<◌, ◌≤◌, ◌↔◌, ◌++◌, [], ℕ, List, Err, IfErr, IfOk, IsTrue, None, is_some, length, take, vec_capacity};
 ghost use Rattle.cert_view.specs.Held.{IsPart};
 ghost use Rattle.cert_rules.specs.Reading.{number_after};
 ghost use Rattle.cert_check.specs.declared.line_why.LineWhy.{LineWhy};
 ghost use Rattle.cert_check.specs.Held.{CarriesColumn, HasColumn, IsOver, IsMoved};
+ghost use Rattle.mill_model.specs.Mill.{IsInLimits};
+ghost use Rattle.cert_check.specs.Endings.{HasAccepted};
 ghost use Rattle.cert_check.specs.Readings.{IsStep, IsSameReader};
+ghost use Rattle.cert_check.specs.Verdicts.{IsBadAt};
 ghost use Rattle.cert_check.specs.Seen.{seen};
 ghost use Rattle.cert_check.specs.Whys.{why_of};
 
+use crate::ending::Ending;
 use crate::failure::Failure;
 use crate::machine::Machine;
 use crate::phase::Phase;
-use crate::{LineWhy, OrderList, Points};
+use crate::{LineWhy, OrderList};
 use cert_rules::Why;
 use cert_view::{Line, LineBuf, Spelling};
 use mill_model::{MOST_ORDERS, Mill};
@@ -80,6 +84,35 @@ impl<'m> Reader<'m> {
         ensures exact { (bytes : List ℕ) → Stands self.now.reading bytes → (IsTrue result ↔ HasBadLine self.now.reading.wanted self.now.reading.mill bytes) }
     {
         self.failed.is_some()
+    }
+
+    // Takes a piece, line by line, until one is bad.
+    pub(crate) fn feed(&mut self, piece: &[u8])
+        ensures stands { (bytes : List ℕ) → Stands self.old.reading bytes → Stands self.new.reading (bytes ++ piece.now) }
+        ensures room { (bytes : List ℕ) → Stands self.old.reading bytes → HasLessRoom self.old.reading self.new.reading (length piece.now) }
+        ensures mill { self.new.reading.mill ≡ self.old.reading.mill }
+        ensures wanted { self.new.reading.wanted ≡ self.old.reading.wanted }
+    {
+        let mut at = 0;
+        while at < piece.len() && !self.failed() {
+            at += self.take(&piece[at..]);
+        }
+    }
+
+    // What has become of the bytes: where their text has ended, or the first bad line.
+    pub(crate) fn end(self) -> Result<Ending, Failure>
+        ensures accepted { (bytes : List ℕ) → Stands self.entry.reading bytes → IfOk result (HasAccepted self.entry.reading bytes) }
+        ensures bad { (bytes : List ℕ) → Stands self.entry.reading bytes → IfErr result (λ f. IsBadAt self.entry.reading.mill self.entry.reading.wanted bytes f.line f.why) }
+        ensures limits { IsInLimits self.entry.reading.mill }
+    {
+        let over = is_over(self.machine.phase());
+        let part = !self.taken && self.held.held() > 0;
+        match self.failed {
+            Some(failure) => Err(failure),
+            None if part => Err(failure_after(self.count, LineWhy::Spelling)),
+            None if !over => Err(failure_after(self.count, LineWhy::End)),
+            None => Ok(self.machine.into_ending()),
+        }
     }
 
     // Takes some bytes of a piece, up to the end of a line, and answers how many.
