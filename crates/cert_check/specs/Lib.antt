@@ -9,3 +9,4 @@ pub mod Machines
 pub mod Seen
 pub mod Held
 pub mod Endings
+pub mod Building

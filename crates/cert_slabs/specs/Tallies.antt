@@ -61,7 +61,7 @@ StayWithin m d shares (Old s) = OrdersWithin m d shares × SlabsWithin m d share
 -- a limit is -1 or more, and not so great that its products overflow
 abbrev pub IsFair : Option ℤ → Type 0
 IsFair None = Unit {0}
-IsFair (Some a) = (pos 0 ≤ℤ a +ℤ pos 1) × (a ≤ℤ pos (2 ^ 32))
+IsFair (Some a) = (pos 0 ≤ℤ (a +ℤ pos 1)) × (a ≤ℤ pos (2 ^ 32))
 
 pub record AreFair (limits : Limits) : Type 0 where
   pub loss : IsFair limits.loss

@@ -21,7 +21,7 @@ pub struct Roster {
 }
 
 impl Model for Roster {
-    ghost use Rattle.std.specs.Prelude.{ℕ, List};
+    ghost use Rattle.std.specs.Prelude.{ℕ, List, length, vec_capacity};
     ghost use Rattle.cert_slabs.specs.Roster.{HasRoom};
 
     ghost Value = { List ℕ };
