@@ -1,0 +1,4 @@
+mod States
+mod Goes
+pub mod Readings
+pub mod HeldLines

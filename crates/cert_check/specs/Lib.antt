@@ -1,0 +1,12 @@
+pub mod Whys
+pub mod Verdicts
+pub mod Kept
+pub mod Lines
+pub mod Sharing
+pub mod Staircases
+pub mod Readings
+pub mod Machines
+pub mod Seen
+pub mod Held
+pub mod Endings
+pub mod Building

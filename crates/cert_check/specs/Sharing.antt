@@ -1,0 +1,12 @@
+-- The rules of a share that speak of the path and of the shares before it.
+use Rattle.std.specs.Prelude.{ℕ, List, [], ◌∷◌, ◌++◌}
+use Rattle.mill_model.specs.Mill.{Mill}
+use Rattle.mill_model.specs.Decisions.{Decision}
+use Rattle.mill_model.specs.Shares.{Share}
+use Rattle.cert_rules.specs.declared.why.Why.TheVariants as why
+use Rattle.cert_rules.specs.Rules.{Rule, rule}
+use Rattle.cert_rules.specs.Spreads.{Agrees, column_of}
+use Rattle.cert_slabs.specs.Tallies.{StayWithin}
+
+abbrev pub share_rules : Mill → List Decision → ℕ → List Share → Share → List Rule
+share_rules m path d shares share = rule why.Agree (Agrees path (column_of share)) ∷ rule why.Cover (StayWithin m d (shares ++ share ∷ []) share.kind) ∷ []

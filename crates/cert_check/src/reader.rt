@@ -1,0 +1,252 @@
+//! Bytes in pieces, line by line.
+ghost use Rattle.std.specs.Prelude.{◌≡◌, ◌<◌, ◌≤◌, ◌↔◌, ◌++◌, [], ℕ, List, Err, IfErr, IfOk, IsTrue, None, is_some, length, take, vec_capacity};
+ghost use Rattle.cert_view.specs.Held.{IsPart};
+ghost use Rattle.cert_rules.specs.Reading.{number_after};
+ghost use Rattle.cert_check.specs.declared.line_why.LineWhy.{LineWhy};
+ghost use Rattle.cert_check.specs.Held.{CarriesColumn, HasColumn, IsOver, IsMoved};
+ghost use Rattle.mill_model.specs.Mill.{IsInLimits};
+ghost use Rattle.cert_check.specs.Endings.{HasAccepted};
+ghost use Rattle.cert_check.specs.Readings.{IsStep, IsSameReader};
+ghost use Rattle.cert_check.specs.Verdicts.{IsBadAt};
+ghost use Rattle.cert_check.specs.Seen.{seen};
+ghost use Rattle.cert_check.specs.Whys.{why_of};
+
+use crate::ending::Ending;
+use crate::failure::Failure;
+use crate::machine::Machine;
+use crate::phase::Phase;
+use crate::{LineWhy, OrderList};
+use cert_rules::Why;
+use cert_view::{Line, LineBuf, Spelling};
+use mill_model::{MOST_ORDERS, Mill};
+use std::alloc::{AllocError, Global};
+use std::marker::Model;
+
+/// A machine, the line that is coming in, and the first bad line if there was one.
+#[derive(Drop)]
+pub(crate) struct Reader<'m> {
+    machine: Machine<'m>,
+    held: LineBuf,
+    // whether the held line is whole and keeps its rules
+    taken: bool,
+    count: u64,
+    failed: Option<Failure>,
+    // for the orders of a column
+    spare: Vec<u16>,
+}
+
+impl<'m> Model for Reader<'m> {
+    ghost use Rattle.std.specs.Prelude.{[], vec_capacity, if◌then◌else◌};
+    ghost use Rattle.cert_check.specs.Seen.{seen};
+    ghost use Rattle.cert_check.specs.Held.{Reader, IsReady, last_of};
+
+    ghost Value = { Reader };
+
+    ghost view = { λ r. record {
+        reading = record {
+            mill = (seen r.machine).mill;
+            wanted = (seen r.machine).wanted;
+            kept = (seen r.machine).kept;
+            count = r.count;
+            held = (if r.taken then [] else r.held);
+            failed = r.failed;
+        };
+        last = last_of r.taken r.held;
+    } };
+
+    ghost invariant = { λ r. IsReady r.held r.taken r.failed (vec_capacity r.spare) };
+}
+
+impl<'m> Reader<'m> {
+    ghost use Rattle.cert_check.specs.Readings.{HasBadLine, HasLessRoom, Stands, wanted_of};
+
+    // A reader that was fed nothing.
+    pub(crate) fn new(alloc: Global, mill: &'m Mill, cuts: bool) -> Result<Reader<'m>, AllocError>
+        ensures stands { IfOk result (λ c. Stands c.reading []) }
+        ensures mill { IfOk result (λ c. c.reading.mill ≡ mill.now) }
+        ensures wanted { IfOk result (λ c. c.reading.wanted ≡ wanted_of cuts) }
+    {
+        let machine = Machine::new(alloc, mill, cuts)?;
+        let spare = Vec::with_capacity(alloc, usize::from(MOST_ORDERS))?;
+        Ok(Reader {
+            machine,
+            held: LineBuf::new(),
+            taken: false,
+            count: 0,
+            failed: None,
+            spare,
+        })
+    }
+
+    // Whether a line is bad.
+    pub(crate) fn failed(&self) -> bool
+        ensures value { result ≡ is_some self.now.reading.failed }
+        ensures exact { (bytes : List ℕ) → Stands self.now.reading bytes → (IsTrue result ↔ HasBadLine self.now.reading.wanted self.now.reading.mill bytes) }
+    {
+        self.failed.is_some()
+    }
+
+    // Takes a piece, line by line, until one is bad.
+    pub(crate) fn feed(&mut self, piece: &[u8])
+        ensures stands { (bytes : List ℕ) → Stands self.old.reading bytes → Stands self.new.reading (bytes ++ piece.now) }
+        ensures room { (bytes : List ℕ) → Stands self.old.reading bytes → HasLessRoom self.old.reading self.new.reading (length piece.now) }
+        ensures mill { self.new.reading.mill ≡ self.old.reading.mill }
+        ensures wanted { self.new.reading.wanted ≡ self.old.reading.wanted }
+    {
+        let mut at = 0;
+        while at < piece.len() && !self.failed() {
+            at += self.take(&piece[at..]);
+        }
+    }
+
+    // What has become of the bytes: where their text has ended, or the first bad line.
+    pub(crate) fn end(self) -> Result<Ending, Failure>
+        ensures accepted { (bytes : List ℕ) → Stands self.entry.reading bytes → IfOk result (HasAccepted self.entry.reading bytes) }
+        ensures bad { (bytes : List ℕ) → Stands self.entry.reading bytes → IfErr result (λ f. IsBadAt self.entry.reading.mill self.entry.reading.wanted bytes f.line f.why) }
+        ensures limits { IsInLimits self.entry.reading.mill }
+    {
+        let over = is_over(self.machine.phase());
+        let part = !self.taken && self.held.held() > 0;
+        match self.failed {
+            Some(failure) => Err(failure),
+            None if part => Err(failure_after(self.count, LineWhy::Spelling)),
+            None if !over => Err(failure_after(self.count, LineWhy::End)),
+            None => Ok(self.machine.into_ending()),
+        }
+    }
+
+    // Takes some bytes of a piece, up to the end of a line, and answers how many.
+    pub(crate) fn take(&mut self, piece: &[u8]) -> usize
+        requires some { 0 < length piece.now }
+        requires running { self.old.reading.failed ≡ None }
+        ensures within { result ≤ length piece.now }
+        ensures moves { 0 < result }
+        ensures stands { (bytes : List ℕ) → Stands self.old.reading bytes → Stands self.new.reading (bytes ++ take result piece.now) }
+        ensures room { (bytes : List ℕ) → Stands self.old.reading bytes → HasLessRoom self.old.reading self.new.reading result }
+        ensures moved { self.new.reading.failed ≡ None → IsMoved self.old.reading.held (take result piece.now) self.new.reading.held self.new.last }
+        ensures mill { self.new.reading.mill ≡ self.old.reading.mill }
+        ensures wanted { self.new.reading.wanted ≡ self.old.reading.wanted }
+    {
+        self.release();
+        if is_over(self.machine.phase()) {
+            self.failed = Some(failure_after(self.count, LineWhy::Extra));
+            return piece.len();
+        }
+        self.take_line(piece)
+    }
+
+    // Lets go of the line that was taken.
+    fn release(&mut self)
+        ensures reading { self.new.reading ≡ self.old.reading }
+        ensures last { self.new.last ≡ None }
+    {
+        if self.taken {
+            self.held.clear();
+            self.taken = false;
+        }
+    }
+
+    // Takes some bytes where the text hasn't ended.
+    fn take_line(&mut self, piece: &[u8]) -> usize
+        requires some { 0 < length piece.now }
+        requires running { self.old.reading.failed ≡ None }
+        requires open { ¬ IsOver self.old.reading.kept.phase }
+        requires last { self.old.last ≡ None }
+        ensures within { result ≤ length piece.now }
+        ensures moves { 0 < result }
+        ensures stands { (bytes : List ℕ) → Stands self.old.reading bytes → Stands self.new.reading (bytes ++ take result piece.now) }
+        ensures room { (bytes : List ℕ) → Stands self.old.reading bytes → HasLessRoom self.old.reading self.new.reading result }
+        ensures moved { self.new.reading.failed ≡ None → IsMoved self.old.reading.held (take result piece.now) self.new.reading.held self.new.last }
+        ensures mill { self.new.reading.mill ≡ self.old.reading.mill }
+        ensures wanted { self.new.reading.wanted ≡ self.old.reading.wanted }
+    {
+        let taken = self.held.feed(piece);
+        match read_line(&self.held, &mut self.machine) {
+            None => {}
+            Some(Ok(())) => {
+                self.count = self.count.saturating_add(1);
+                self.taken = true;
+            }
+            Some(Err(why)) => {
+                let why = with_column(why, &self.machine, &mut self.spare);
+                self.failed = Some(failure_after(self.count, why));
+            }
+        }
+        taken
+    }
+
+    // The line that the last bytes ended, if it keeps its rules.
+    pub(crate) fn last(&self) -> Option<Line<'_>>
+        ensures line { result ≡ self.now.last }
+    {
+        if !self.taken {
+            return None;
+        }
+        match self.held.line() {
+            Some(Ok(line)) => Some(line),
+            _ => None,
+        }
+    }
+}
+
+// Whether nothing can stand next.
+fn is_over(phase: Phase) -> bool
+    ensures { IsTrue result ↔ IsOver phase }
+{
+    matches!(phase, Phase::Proved | Phase::Unfinished)
+}
+
+// The line after so many is the first bad one.
+fn failure_after(count: u64, why: LineWhy) -> Failure
+    ensures { result ≡ record { line = number_after count; why = why } }
+{
+    let line = count.saturating_add(1);
+    Failure { line, why }
+}
+
+// Reads the held line, if it is whole, and lets the machine take it.
+fn read_line(held: &LineBuf, machine: &mut Machine<'_>) -> Option<Result<(), Why>>
+    ensures step { IsStep (seen machine.old) (seen machine.new) held.now result }
+    ensures same { IsSameReader (seen machine.old) (seen machine.new) }
+{
+    match held.line() {
+        None => None,
+        Some(Err(Spelling::Form)) => Some(Err(Why::Spelling)),
+        Some(Err(Spelling::Range)) => Some(Err(Why::Range)),
+        Some(Ok(line)) => match machine.line(&line) {
+            Ok(()) => Some(Ok(())),
+            Err(why) => Some(Err(why)),
+        },
+    }
+}
+
+// The why with the column that a leaf exceeds.
+fn with_column(why: Why, machine: &Machine<'_>, spare: &mut Vec<u16>) -> LineWhy
+    requires room { 250 ≤ vec_capacity spare.old }
+    requires found { why ≡ Why.Column → HasColumn (seen machine.now) }
+    ensures why { why_of result ≡ why }
+    ensures column { CarriesColumn (seen machine.now).bad result }
+{
+    match why {
+        Why::Column => {
+            let (kind, orders) = machine.bad_column();
+            let orders = take_orders(orders, spare);
+            LineWhy::Column { kind, orders }
+        }
+        other => LineWhy::plain(other),
+    }
+}
+
+// Moves orders into a list, in memory that was taken before.
+fn take_orders(orders: &[u16], spare: &mut Vec<u16>) -> OrderList
+    requires room { 250 ≤ vec_capacity spare.old }
+    requires few { length orders.now ≤ 250 }
+    ensures { result ≡ orders.now }
+{
+    spare.clear();
+    for order in orders {
+        spare.push_reserved(*order);
+    }
+    let empty = Vec::new(*spare.allocator());
+    OrderList::new(std::mem::replace(spare, empty))
+}

@@ -1,0 +1,113 @@
+//! The sums of the points so far.
+ghost use Rattle.std.specs.Prelude.{◌≡◌, ◌≢◌, Err, ◌∷◌, [], reverse, length, IfOk, OnOk};
+ghost use Rattle.cert_rules.specs.States.{latest, limits_of};
+ghost use Rattle.cert_rules.specs.Slabs.{point_rules, sums_of_line};
+ghost use Rattle.cert_slabs.specs.Answers.{Answers};
+ghost use Rattle.cert_slabs.specs.Tallies.{AreFair};
+ghost use Rattle.cert_check.specs.Kept.{owner_of};
+
+use crate::Points;
+use cert_rules::Why;
+use cert_view::Nums;
+use mill_model::{Limits, Sums};
+use std::alloc::{AllocError, Global};
+use std::marker::Model;
+
+// The counts of points fall from 250 at most to 0 at least.
+const MOST_POINTS: usize = 251;
+
+// The greatest loss and the greatest count that a point's line may have.
+const MOST_LOSS: i64 = 2_500_000;
+const MOST_COUNT: i64 = 250;
+
+/// The sums of points whose losses rise and whose counts fall, the earliest first.
+#[derive(Drop)]
+pub(crate) struct Staircase {
+    list: Vec<Sums>,
+}
+
+impl Model for Staircase {
+    ghost use Rattle.std.specs.Prelude.{List, vec_capacity};
+    ghost use Rattle.mill_model.specs.declared.sums.Sums.{Sums};
+    ghost use Rattle.cert_check.specs.Staircases.{IsStaircase};
+
+    ghost Value = { List Sums };
+
+    ghost view = { λ s. s.list.items };
+
+    ghost invariant = { λ s. IsStaircase s.list.items (vec_capacity s.list) };
+}
+
+impl Staircase {
+    // No point, and the memory for all that can come.
+    pub(crate) fn new(alloc: Global) -> Result<Staircase, AllocError>
+        ensures { IfOk result (λ s. s ≡ []) }
+    {
+        let list = Vec::with_capacity(alloc, MOST_POINTS)?;
+        Ok(Staircase { list })
+    }
+
+    // Takes a line `point`: its sums join the others, or it breaks a rule.
+    pub(crate) fn add(&mut self, numbers: &Nums<'_>) -> Result<(), Why>
+        requires { length numbers.now ≡ 2 }
+        ensures rules { Answers (point_rules (latest (reverse self.old)) numbers.now) result }
+        ensures points { OnOk result (reverse self.new ≡ sums_of_line numbers.now ∷ reverse self.old) }
+        ensures other { result ≢ Err Why.Column }
+    {
+        let loss = numbers.get(0);
+        let count = numbers.get(1);
+        if loss < 0 || loss > MOST_LOSS || count < 0 || count > MOST_COUNT {
+            return Err(Why::Range);
+        }
+        let sums = Sums {
+            loss: loss as u32,
+            count: count as u16,
+        };
+        if let Some(last) = self.list.last() {
+            if sums.loss <= last.loss || sums.count >= last.count {
+                return Err(Why::Order);
+            }
+        }
+        self.list.push_reserved(sums);
+        Ok(())
+    }
+
+    // The sums of the latest point.
+    pub(crate) fn latest(&self) -> Option<Sums>
+        ensures { result ≡ latest (reverse self.now) }
+    {
+        self.list.last().copied()
+    }
+
+    // The limits that the tree of the latest point refutes, or the tree after `done`.
+    pub(crate) fn limits(&self, rest: bool) -> Limits
+        ensures value { result ≡ limits_of (owner_of rest) (reverse self.now) }
+        ensures fair { AreFair result }
+    {
+        match self.list.as_slice() {
+            [] => Limits {
+                loss: None,
+                count: None,
+            },
+            [.., last] if rest => Limits {
+                loss: None,
+                count: Some(i64::from(last.count) - 1),
+            },
+            [last] => Limits {
+                loss: Some(i64::from(last.loss) - 1),
+                count: None,
+            },
+            [.., before, last] => Limits {
+                loss: Some(i64::from(last.loss) - 1),
+                count: Some(i64::from(before.count) - 1),
+            },
+        }
+    }
+
+    // The points.
+    pub(crate) fn into_points(self) -> Points
+        ensures { result ≡ self }
+    {
+        Points::new(self.list)
+    }
+}

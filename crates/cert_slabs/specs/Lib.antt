@@ -1,0 +1,4 @@
+pub mod Answers
+pub mod Roster
+pub mod Drafts
+pub mod Tallies
