@@ -13,7 +13,7 @@ use Rattle.cert_view.specs.Text.{line_text}
 use Rattle.cert_view.specs.Laws.{BeginsWith}
 use Rattle.cert_view.proofs.Feeds.{text_is_read, read_is_text}
 use Rattle.cert_text.specs.Texts.{lines_text}
-use Rattle.price_check.specs.Numbers.{prices_of}
+use Rattle.mill_model.specs.Prices.{prices_of}
 use Rattle.price_check.specs.Exceeding.{IsExceeding}
 use Rattle.cert_rules.specs.declared.why.Why.{Why}
 use Rattle.cert_rules.specs.declared.why.Why.TheVariants as why

@@ -18,7 +18,7 @@ use Rattle.mill_model.specs.Trees.{step_of}
 use Rattle.mill_model.specs.Fronts.{Point}
 use Rattle.cert_view.specs.declared.line.Line.{Line}
 use Rattle.cert_view.specs.declared.line.Line.TheVariants as lines
-use Rattle.price_check.specs.Numbers.{prices_of}
+use Rattle.mill_model.specs.Prices.{prices_of}
 use Rattle.cert_rules.specs.Numbers.{index, natural, number_at}
 
 -- ---- numbers

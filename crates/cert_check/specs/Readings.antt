@@ -10,7 +10,7 @@ use Rattle.cert_view.specs.Line.{next_line}
 use Rattle.cert_view.specs.Held.{IsPart, IsWhole}
 use Rattle.cert_rules.specs.Reading.{IsBadLine}
 use Rattle.cert_view.specs.declared.line.Line.TheVariants as lines
-use Rattle.price_check.specs.Numbers.{prices_of}
+use Rattle.mill_model.specs.Prices.{prices_of}
 use Rattle.price_check.specs.Exceeding.{IsExceeding}
 use Rattle.cert_check.specs.declared.line_why.LineWhy.{LineWhy}
 use Rattle.cert_check.specs.declared.line_why.LineWhy.TheVariants as carried

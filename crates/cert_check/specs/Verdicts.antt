@@ -12,7 +12,7 @@ use Rattle.cert_view.specs.Line.{next_line}
 use Rattle.cert_text.specs.Certificates.{Certificate, ShowsFront, ShowsNoPlan, ShowsCut}
 use Rattle.cert_text.specs.Certificates.Ending.{Whole as WholeEnding, Cut as CutEnding}
 use Rattle.cert_text.specs.Texts.{Spells}
-use Rattle.price_check.specs.Numbers.{prices_of}
+use Rattle.mill_model.specs.Prices.{prices_of}
 use Rattle.price_check.specs.Exceeding.{IsExceeding}
 use Rattle.cert_rules.specs.States.{Wanted, State}
 use Rattle.cert_rules.specs.States.Wanted.{All, Cuts}

@@ -1,7 +1,7 @@
 //! Lines of a tree against the path: the code that the line machine calls there.
 ghost use Rattle.std.specs.Prelude.{◌≡◌, ◌≢◌, ◌≤◌, ◌∷◌, true, None, Ok, Err, IfErr, IfOk, OnOk, IfSome, IfNone, IsSome, length};
 ghost use Rattle.cert_view.specs.Text.{IsLine};
-ghost use Rattle.price_check.specs.Numbers.{prices_of};
+ghost use Rattle.mill_model.specs.Prices.{prices_of};
 ghost use Rattle.price_check.specs.Exceeding.{IsExceeding};
 ghost use Rattle.cert_check.specs.Lines.{can_begin, is_ask, IsAsked, IsNotAsked};
 ghost use Rattle.cert_rules.specs.Rules.{AllKept, FirstBroken};

@@ -7,12 +7,12 @@ use Rattle.std.proofs.Math.Seq.{take-append_seam, drop-append_seam}
 use Rattle.mill_model.specs.declared.limits.Limits.{Limits}
 use Rattle.mill_model.specs.Mill.{Mill}
 use Rattle.mill_model.specs.Decisions.{Decision}
-use Rattle.mill_model.specs.Prices.{Prices, IsPrice, ArePrices, Refutes}
+use Rattle.mill_model.specs.Prices.{Prices, IsPrice, ArePrices, Refutes, prices_of, HasSigns, HasLimits, IsWorth, NoneExceeds}
 use Rattle.cert_view.specs.declared.line.Line.TheVariants as lines
 use Rattle.cert_view.specs.Number.{IsWithin}
 use Rattle.cert_view.specs.Text.{IsLine}
 use Rattle.cert_rules.specs.Rules.{AllKept}
-use Rattle.cert_rules.specs.Leaves.{prices_of, HasSigns, HasLimits, IsWorth, NoneExceeds, leaf_rules}
+use Rattle.cert_rules.specs.Leaves.{leaf_rules}
 
 abbrev pub numbers_of : Prices → List ℤ
 numbers_of p = p.lambda ∷ p.mu ∷ (p.pi ++ p.sigma)

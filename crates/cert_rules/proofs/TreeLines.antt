@@ -12,7 +12,7 @@ use Rattle.mill_model.specs.declared.version.Version.TheVariants.{One, Two}
 use Rattle.mill_model.specs.Mill.{Mill}
 use Rattle.mill_model.specs.Decisions.{Decision, IsAsk}
 use Rattle.mill_model.specs.Paths.{next_branch}
-use Rattle.mill_model.specs.Prices.{Prices, Refutes}
+use Rattle.mill_model.specs.Prices.{Prices, Refutes, prices_of}
 use Rattle.mill_model.specs.Shares.{Share, IsMultiplier, IsShown}
 use Rattle.mill_model.specs.Trees.{IsFresh}
 use Rattle.mill_model.specs.Marks.{IsRight}
@@ -22,7 +22,7 @@ use Rattle.cert_text.specs.Lines.{ask_line, leaf_line, share_line, share_line_on
 use Rattle.cert_view.specs.Number.{IsWithin}
 use Rattle.cert_view.specs.Text.{IsLine}
 use Rattle.std.proofs.lemmas.List.Elements.{recursion_from_All}
-use Rattle.cert_rules.specs.Leaves.{prices_of, leaf_rules}
+use Rattle.cert_rules.specs.Leaves.{leaf_rules}
 use Rattle.cert_rules.specs.Rules.{Rule, AllKept}
 use Rattle.cert_rules.specs.States.{Wanted, Owner, Goal, State, tree_limits, after_tree, branch_or}
 use Rattle.cert_rules.specs.States.Stage.{Begins, Marked, InSpread}

@@ -7,7 +7,7 @@ use Rattle.mill_model.specs.declared.sums.Sums.{Sums}
 use Rattle.mill_model.specs.Mill.{Mill}
 use Rattle.mill_model.specs.Columns.{Column, has}
 use Rattle.mill_model.specs.Decisions.{Decision}
-use Rattle.mill_model.specs.Shares.{Share}
+use Rattle.mill_model.specs.Shares.{Share, most_multiplier}
 use Rattle.cert_rules.specs.States.{Wanted, Owner, Stage, State}
 use Rattle.cert_rules.specs.States.Owner.{OfPoint, OfRest}
 use Rattle.cert_rules.specs.States.Stage.{Begins, Marked, InSpread}
@@ -48,7 +48,7 @@ asks_left m path =
 
 -- a node has at most so many lines: the first of its mark, a share of at least one for each order and unit of the denominator, and its question
 abbrev pub node_lines : Mill → ℕ
-node_lines m = length m.orders * 2 ^ 62 + 2
+node_lines m = length m.orders * most_multiplier + 2
 
 -- and below it, where so many questions are left, its two branches
 abbrev pub below_node : Mill → ℕ → ℕ

@@ -12,7 +12,7 @@ use Rattle.mill_model.specs.Decisions.{Decision, IsAsk, AreAsks, answer_of, Plan
 use Rattle.mill_model.specs.Assignments.{Group, same_group, Assignment, answer, Agrees, Follows, AreSettled}
 use Rattle.mill_model.specs.Assignments.Group.{On, Loose}
 use Rattle.mill_model.proofs.Slabs.{place, kind, only_slab, on_a_slab}
-use Rattle.mill_model.proofs.Closing.{same_group-true, same_group_from}
+use Rattle.mill_model.proofs.SameGroups.{same_group-true, same_group_from}
 
 -- ---- a plan as an assignment
 

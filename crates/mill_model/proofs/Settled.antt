@@ -16,7 +16,7 @@ use Rattle.mill_model.specs.Limits.{number_of}
 use Rattle.mill_model.specs.Assignments.{Group, same_group, Assignment, answer, Agrees, AreSettled}
 use Rattle.mill_model.proofs.Signed.{total_by_at, total_below-ext}
 use Rattle.mill_model.proofs.Duality.{column_total}
-use Rattle.mill_model.proofs.Closing.{same_group-true, same_group_from}
+use Rattle.mill_model.proofs.SameGroups.{same_group-true, same_group_from}
 use Rattle.mill_model.proofs.Agreement.{settled_orders}
 use Rattle.mill_model.proofs.PlainPrices.{zeros_are_prices, length-zeros, zeros_sign, zero_total}
 

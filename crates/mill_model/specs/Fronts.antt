@@ -42,10 +42,6 @@ pub record IsPoint (m : Mill) (point : Sums × Plan) : Type 0 where
   pub order : IsInOrder point.1
   pub sums : sums_of m point.1 ≡ point.0
 
--- the pairs of loss and count, without the plans
-abbrev pub pairs_of : List (Sums × Plan) → List Sums
-pairs_of points = map (λ point. point.0) points
-
 -- a point of a certificate: its sums, a plan that attains them, and a marked tree that refutes less loss
 pub record Point : Type 0 where
   pub sums : Sums

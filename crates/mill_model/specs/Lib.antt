@@ -11,7 +11,6 @@ pub mod Shares
 pub mod Marks
 pub mod Fronts
 pub mod Assignments
-pub mod Closures
 pub mod Paths
 pub mod Plain
 pub mod Judging

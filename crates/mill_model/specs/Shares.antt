@@ -22,9 +22,12 @@ pub record Shown : Type 0 where
 abbrev pub part_of : Share → Part
 part_of share = (record { kind = share.kind; orders = share.orders }, unsigned_abs share.times)
 
--- a number from 1 to 2 ^ 62
+-- the greatest denominator and multiplier
+abbrev pub most_multiplier : ℕ
+most_multiplier = 2 ^ 62
+
 abbrev pub IsMultiplier : ℤ → Type 0
-IsMultiplier q = (pos 1 ≤ℤ q) × (q ≤ℤ pos (2 ^ 62))
+IsMultiplier q = (pos 1 ≤ℤ q) × (q ≤ℤ pos most_multiplier)
 
 -- the shares are a cover within the limits, over this denominator, and no number of it is out of range
 pub record IsShown (m : Mill) (limits : Limits) (decisions : List Decision) (shown : Shown) : Type 0 where

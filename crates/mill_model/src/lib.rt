@@ -35,12 +35,12 @@ pub use illegal::Illegal;
 pub use kind::Kind;
 pub use laws::{
     a_mill_has_one_front, columns_agree_with_what_follows, covers_serve_greater_limits,
-    good_heads_begin_the_front, marked_steps_begin_one_tree, no_cover_where_refuted,
-    no_point_means_no_plan, plain_marks_claim_nothing, plainly_refuted_limits_are_refuted,
-    plans_agree_by_slabs, plans_agree_with_what_follows, plans_answer_once, prices_exclude_plans,
-    shown_covers_exclude_prices, sizes_are_loss_and_weights, steps_begin_one_tree,
-    trees_exclude_plans, trees_have_few_nodes, trees_serve_smaller_limits,
-    whole_certificates_give_the_front,
+    good_heads_begin_the_front, legal_plans_break_no_rule, marked_steps_begin_one_tree,
+    no_cover_where_refuted, no_point_means_no_plan, plain_marks_claim_nothing,
+    plainly_refuted_limits_are_refuted, plans_agree_by_slabs, plans_agree_with_what_follows,
+    plans_answer_once, prices_exclude_plans, shown_covers_exclude_prices,
+    sizes_are_loss_and_weights, steps_begin_one_tree, trees_exclude_plans, trees_have_few_nodes,
+    trees_serve_smaller_limits, whole_certificates_give_the_front,
 };
 pub use limits::Limits;
 pub use mark::Mark;

@@ -12,7 +12,8 @@ use Rattle.pricing_laws.specs.Problems.{Problem, IsAllowed, ExceedAtMost}
 use Rattle.pricing_laws.proofs.Colours.{column_set}
 use Rattle.pricing_laws.proofs.Excesses.{priced_from_excess}
 use Rattle.pricing_laws.proofs.Problems.{exceed_both, exceed_weaker}
-use Rattle.price_check.specs.Exceeding.{IsExceeding, NoneExceeds}
+use Rattle.price_check.specs.Exceeding.{IsExceeding}
+use Rattle.mill_model.specs.Prices.{NoneExceeds}
 use Rattle.price_check.specs.Finds.{IsAnswer}
 
 -- no column exceeds

@@ -9,9 +9,7 @@ use Rattle.mill_model.specs.declared.limits.Limits.{Limits}
 use Rattle.mill_model.specs.Mill.{Mill, IsInLimits}
 use Rattle.mill_model.specs.Columns.{Column}
 use Rattle.mill_model.specs.Decisions.{Decision}
-use Rattle.mill_model.specs.Prices.{Prices, IsPrice, ArePrices, Refutes}
-use Rattle.price_check.specs.Numbers.{prices_of}
-use Rattle.price_check.specs.Rules.{HasCount, HasSigns, HasLimits, IsWorth}
+use Rattle.mill_model.specs.Prices.{Prices, IsPrice, ArePrices, Refutes, HasCount, HasSigns, HasLimits, IsWorth, prices_of}
 use Rattle.price_check.specs.Exceeding.{NoneExceeds, IsExceeding}
 use Rattle.price_check.specs.Asked.{IsAsked}
 use Rattle.cert_view.specs.Number.{IsWithin}

@@ -3,8 +3,8 @@ use Rattle.std.proofs.Common.{ℕ, ◌+◌, ◌≤◌, ◌^◌, ℤ, pos, List, 
 use Rattle.std.specs.Prelude.{unsigned_abs}
 use Rattle.std.proofs.lemmas.Int.{ints}
 use Rattle.std.proofs.lemmas.List.Elements.{All-get_or, All-take, All-drop}
-use Rattle.mill_model.specs.Prices.{IsPrice, ArePrices}
-use Rattle.price_check.specs.Numbers.{prices_of, AreQuoted}
+use Rattle.mill_model.specs.Prices.{IsPrice, ArePrices, prices_of}
+use Rattle.price_check.specs.Numbers.{AreQuoted}
 
 pub ArePrices-from_quoted : (n : ℕ) (numbers : List ℤ) → AreQuoted n numbers → ArePrices (prices_of n numbers)
 ArePrices-from_quoted n numbers quoted =

@@ -12,7 +12,3 @@ pub record IsExceeding (m : Mill) (decisions : List Decision) (p : Prices) (c : 
   pub agrees : column_agrees decisions c ≡ true
   pub exceeds : ¬ IsPriced m p c
   pub least : IsOfLeastSize m (load m c.orders) c.kind
-
--- no legal column that agrees with the decisions is worth more than it costs
-abbrev pub NoneExceeds : Mill → List Decision → Prices → Type 0
-NoneExceeds m decisions p = (c : Column) → IsLegalColumn m c → column_agrees decisions c ≡ true → IsPriced m p c

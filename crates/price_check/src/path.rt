@@ -3,10 +3,9 @@ ghost use Rattle.std.specs.Prelude.{◌≡◌, ◌<◌, ◌∷◌, ◌↔◌, []
 ghost use Rattle.mill_model.specs.Columns.{Rises};
 ghost use Rattle.mill_model.specs.Decisions.{column_agrees};
 ghost use Rattle.mill_model.specs.Paths.{next_branch as branch_after};
-ghost use Rattle.mill_model.specs.Prices.{Refutes};
+ghost use Rattle.mill_model.specs.Prices.{Refutes, HasCount, prices_of};
 ghost use Rattle.mill_model.specs.Decisions.{IsAskAmong};
-ghost use Rattle.price_check.specs.Numbers.{prices_of};
-ghost use Rattle.price_check.specs.Rules.{HasCount, BreaksFirst};
+ghost use Rattle.price_check.specs.Rules.{BreaksFirst};
 ghost use Rattle.price_check.specs.Exceeding.{IsExceeding};
 
 use crate::bad::Bad;

@@ -1,7 +1,7 @@
 //! The numbers of a leaf, kept as prices.
 ghost use Rattle.std.specs.Prelude.{◌≡◌, ◌+◌, ◌≤◌, IfOk, length};
 ghost use Rattle.mill_model.specs.Prices.{ArePrices};
-ghost use Rattle.price_check.specs.Numbers.{prices_of};
+    ghost use Rattle.mill_model.specs.Prices.{prices_of};
 
 use cert_view::Nums;
 use std::alloc::{AllocError, Global};
@@ -19,7 +19,7 @@ impl Model for Quote {
 
     ghost Value = { Prices };
 
-    ghost use Rattle.price_check.specs.Numbers.{prices_of, AreQuoted};
+    ghost use Rattle.price_check.specs.Numbers.{AreQuoted};
 
     ghost view = { λ q. prices_of q.orders q.numbers.items };
 

@@ -2,8 +2,7 @@
 ghost use Rattle.std.specs.Prelude.{◌≡◌, ◌≤◌, ◌*◌, ◌^◌, ◌↔◌, IsTrue, All, length, unsigned_abs, pos, ◌≤ℤ◌, ◌*ℤ◌};
 ghost use Rattle.mill_model.specs.Limits.{number_of};
 ghost use Rattle.mill_model.specs.SignedSums.{total_by};
-ghost use Rattle.mill_model.specs.Prices.{IsPrice};
-ghost use Rattle.price_check.specs.Rules.{HasSigns, HasLimits, IsWorth};
+ghost use Rattle.mill_model.specs.Prices.{IsPrice, HasSigns, HasLimits, IsWorth};
 
 use crate::quote::Quote;
 use mill_model::Limits;

@@ -1,6 +1,7 @@
 //! Room for the test of a leaf.
 ghost use Rattle.std.specs.Prelude.{◌≤◌, IfOk, IfNone, IfSome, length};
-ghost use Rattle.price_check.specs.Exceeding.{NoneExceeds, IsExceeding};
+ghost use Rattle.price_check.specs.Exceeding.{IsExceeding};
+ghost use Rattle.mill_model.specs.Prices.{NoneExceeds};
 ghost use Rattle.price_check.specs.Ready.{HasSpace};
 
 use crate::frame::Frame;

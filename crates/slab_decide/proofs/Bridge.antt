@@ -8,7 +8,7 @@ use Rattle.mill_model.specs.declared.ask.Ask.TheVariants.{Pair, Put}
 use Rattle.mill_model.specs.Decisions.{Decision}
 use Rattle.mill_model.specs.Assignments.{Group, same_group, Assignment, answer, Agrees}
 use Rattle.mill_model.specs.Assignments.Group.{On, Loose}
-use Rattle.mill_model.proofs.Closing.{same_group-true, same_group_from}
+use Rattle.mill_model.proofs.SameGroups.{same_group-true, same_group_from}
 use Rattle.slab_closure.specs.declared.relation.Relation.{Relation}
 use Rattle.slab_closure.specs.declared.relation.Relation.TheVariants.{Same, Apart}
 use Rattle.slab_closure.specs.Relations.{Table, IsClosed}

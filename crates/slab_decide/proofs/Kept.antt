@@ -7,7 +7,7 @@ use Rattle.mill_model.specs.declared.ask.Ask.{Ask}
 use Rattle.mill_model.specs.Decisions.{Decision, agrees}
 use Rattle.mill_model.specs.Assignments.{Group, same_group, Follows}
 use Rattle.mill_model.specs.Assignments.Group.{On}
-use Rattle.mill_model.proofs.Closing.{same_group-true, same_group_from}
+use Rattle.mill_model.proofs.SameGroups.{same_group-true, same_group_from}
 use Rattle.mill_model.proofs.Gap.{Contains-here, Contains-later, Contains-cases}
 use Rattle.slab_closure.specs.declared.relation.Relation.{Relation}
 use Rattle.slab_closure.specs.declared.relation.Relation.TheVariants.{Open, Same, Apart}

@@ -13,7 +13,7 @@ use Rattle.mill_model.specs.Assignments.{Group, same_group, Assignment, answer, 
 use Rattle.mill_model.specs.Assignments.Group.{On}
 use Rattle.pricing_laws.specs.Groups.{head_of}
 use Rattle.mill_model.proofs.Agreement.{settled_orders, settled_kind}
-use Rattle.mill_model.proofs.Closing.{same_group-true, same_group_from}
+use Rattle.mill_model.proofs.SameGroups.{same_group-true, same_group_from}
 use Rattle.pricing_laws.proofs.Groups.{members_rise}
 use Rattle.mill_model.proofs.Rising.{same_members}
 use Rattle.mill_model.proofs.Settled.{plan_agrees_like}

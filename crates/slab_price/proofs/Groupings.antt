@@ -9,7 +9,7 @@ use Rattle.mill_model.specs.Columns.{has}
 use Rattle.mill_model.specs.Decisions.{Decision}
 use Rattle.mill_model.specs.Assignments.{Follows}
 use Rattle.pricing_laws.specs.Groups.{head_of, AreHeads}
-use Rattle.mill_model.proofs.Closing.{same_group-true, same_group_from}
+use Rattle.mill_model.proofs.SameGroups.{same_group-true, same_group_from}
 use Rattle.mill_model.proofs.Agreement.{column_follows}
 use Rattle.slab_decide.specs.Decided.{AreConsistent, IsOpen}
 use Rattle.pricing_laws.specs.Groups.{AreApart}

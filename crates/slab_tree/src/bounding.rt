@@ -3,13 +3,13 @@
 ghost use Rattle.std.specs.Prelude.{◌≡◌, ◌<◌, ◌≤◌, ◌*◌, ◌^◌, ◌↔◌, IsTrue, IfOk, IfNone, All, length, unsigned_abs, ◌*ℤ◌};
 ghost use Rattle.mill_model.specs.Limits.{number_of, AreSmaller};
 ghost use Rattle.mill_model.specs.SignedSums.{total_by};
-ghost use Rattle.mill_model.specs.Prices.{IsPrice};
+ghost use Rattle.mill_model.specs.Prices.{IsPrice, HasLimits, IsWorth};
 ghost use Rattle.mill_model.specs.Plain.{IsPlainlyRefuted};
 ghost use Rattle.slab_master.specs.Given.{IsSmall};
 ghost use Rattle.slab_relax.specs.PoolCovers.{IsPoolCover};
 ghost use Rattle.slab_relax.specs.Tallies.{AreNoLess};
 ghost use Rattle.slab_node.specs.Turns.{IsNode, IsTurn, IsRefuted, IfSpread};
-ghost use Rattle.slab_tree.specs.Bounding.{HasLimits, IsWorth, IsPaidFor};
+ghost use Rattle.slab_tree.specs.Bounding.{IsPaidFor};
 
 use crate::guide::Guide;
 use loss_table::LossTable;
