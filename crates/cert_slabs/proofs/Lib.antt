@@ -1,3 +1,4 @@
-mod Listing
-mod PlanLines
-mod TallyLines
+pub mod Listing
+pub mod Rising
+pub mod PlanLines
+pub mod TallyLines

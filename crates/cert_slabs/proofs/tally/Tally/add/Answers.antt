@@ -1,0 +1,31 @@
+use Rattle.std.proofs.Common.{rules, ◌≡◌, ◌≢◌, Err, ◌≤◌, ◌<◌, ◌*◌, ◌+◌, ◌^◌, ◌↔◌, ◌++◌, ◌∷◌, [], ℕ, pos, ◌≤ℤ◌, true, List, IfOk, OnOk, IsTrue, IfErr, length, sum, slice_index, unsigned_abs, ◌-◌, ◌/◌, ◌%◌, Bool, false, nat_eq, nat_lt, slice_index_or, slice_set, bit_and, bit_or, Fits, w8, w32, w64, Bor, MutBor}
+use Rattle.std.specs.Bool.{OnTrue}
+use Rattle.mill_model.specs.Columns.{Rises, has}
+use Rattle.mill_model.specs.Shares.{Share}
+use Rattle.mill_model.specs.Limits.{AtMost}
+use Rattle.mill_model.specs.Covers.{times}
+use Rattle.cert_rules.specs.Numbers.{number_at}
+use Rattle.cert_rules.specs.Spreads.{share_of_new, share_of_old, spread_rules, cover_rules}
+use Rattle.cert_slabs.specs.Answers.{Answers, IsRead, IsShare, share_of, new_share_front, old_share_front}
+use Rattle.cert_slabs.specs.Tallies.{AreFair, AreWithin, IsAdded, IsFair, IsTally, StayWithin}
+use Rattle.cert_slabs.proofs.tally.Tally.add.Goals as goal
+
+-- src/tally.rt:98:13
+pub returns-then-not-cover-clause-cover : goal.returns-then-not-cover-clause-cover
+returns-then-not-cover-clause-cover c = ?
+
+-- src/tally.rt:101:29
+pub overflow_add-self : goal.overflow_add-self
+overflow_add-self c = ?
+
+-- src/tally.rt:104:21
+pub returns-then-not-use_slab-clause-cover : goal.returns-then-not-use_slab-clause-cover
+returns-then-not-use_slab-clause-cover c = ?
+
+-- src/tally.rt:109:9
+pub overflow_add-self-2 : goal.overflow_add-self-2
+overflow_add-self-2 c = ?
+
+-- src/tally.rt:86:5
+pub invariant_of-self-2 : goal.invariant_of-self-2
+invariant_of-self-2 c = ?
