@@ -3,6 +3,8 @@ use Rattle.std.proofs.Common.{◌≡◌, ℕ, zero, suc, ◌+◌, ◌*◌, ◌-�
 use Rattle.std.specs.List.{AllByRecursion, list_any, sum_by}
 use Rattle.std.proofs.Math.ListN.{set}
 use Rattle.std.proofs.Math.Seq.{take-append_seam}
+use Rattle.std.proofs.lemmas.List.Elements.{All-from_get_or}
+use Rattle.std.proofs.lemmas.List.Sums.{sum_by-set, sum_by-le}
 use Rattle.std.proofs.lemmas.List.Folds.{list_any_more}
 use Rattle.mill_model.specs.Columns.{Rises, has}
 
@@ -41,13 +43,16 @@ new_at low high (x ∷ xs) (suc i) r h = grind (arith, rises_at (x + 1) high xs 
     other : (a b : ℕ) → a + 1 ≤ b → eqb a b ≡ false
     other a b l = grind arith
 
+-- an element in range doesn't depend on the default
+pub get_in_range : {A : Type 0} (xs : List A) (i : ℕ) (d e : A) → i < length xs → get_or xs i d ≡ get_or xs i e
+get_in_range [] i d e h = absurd (omega (arith, h))
+get_in_range (x ∷ xs) zero d e h = refl
+get_in_range (x ∷ xs) (suc i) d e h = get_in_range xs i d e (omega (arith, h))
+
 -- the sum where one is raised
 pub sum_raised : (xs : List ℕ) (i y : ℕ) → i < length xs → sum (set xs i (get_or xs i 0 + y)) ≡ sum xs + y
-sum_raised [] i y h = absurd (omega (arith, h))
-sum_raised (x ∷ xs) zero y h = omega arith
-sum_raised (x ∷ xs) (suc i) y h = omega (arith, sum_raised xs i y (omega (arith, h)))
+sum_raised xs i y h = omega (arith, sum_by-set (λ (x : ℕ). x) xs i (get_or xs i 0 + y) 0 h)
 
 -- sums of small numbers
 pub sum_small : (most : ℕ) (xs : List ℕ) → ((i : ℕ) → i < length xs → get_or xs i 0 ≤ most) → sum xs ≤ length xs * most
-sum_small most [] f = omega arith
-sum_small most (x ∷ xs) f = omega (arith, let h : x ≤ most = f 0 (omega arith) in h, sum_small most xs (λ i h. f (suc i) (omega (arith, h))))
+sum_small most xs f = sum_by-le (λ (x : ℕ). x) most xs (All-from_get_or (λ (x : ℕ). x ≤ most) xs 0 f)

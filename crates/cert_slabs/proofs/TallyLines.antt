@@ -1,8 +1,10 @@
 -- The sums over shares, and the rules that are tested by them.
-use Rattle.std.proofs.Common.{◌≡◌, ◌↔◌, ℕ, ◌+◌, ◌*◌, ◌<◌, ◌≤◌, ℤ, pos, unsigned_abs, ◌≤ℤ◌, ◌*ℤ◌, Bool, true, false, ◌||◌, cond, eqb, inl, inr, List, [], ◌∷◌, ◌++◌, drop, length, get_or, Some, refl, sym, ap, ap₂, ◌∙◌, subst, arith}
+use Rattle.std.proofs.Common.{◌≡◌, ◌↔◌, ℕ, ◌+◌, ◌*◌, ◌<◌, ◌≤◌, ℤ, pos, unsigned_abs, ◌≤ℤ◌, ◌*ℤ◌, Bool, true, false, ◌||◌, cond, eqb, inl, inr, List, [], ◌∷◌, ◌++◌, drop, length, get_or, sum, ◌^◌, Some, refl, sym, ap, ap₂, ◌∙◌, subst, arith}
 use Rattle.std.specs.List.{sum_by}
 use Rattle.std.proofs.lemmas.List.Sums.{sum_by_push}
 use Rattle.std.proofs.lemmas.Bool.{cases_Bool}
+use Rattle.std.proofs.Math.Nat.{mul-le-mul_left, mul-le-mul_right}
+use Rattle.cert_slabs.proofs.Rising.{sum_small}
 use Rattle.mill_model.specs.declared.kind.Kind.{Kind}
 use Rattle.mill_model.specs.declared.kind.Kind.TheVariants.{New, Old}
 use Rattle.mill_model.specs.declared.limits.Limits.{Limits}
@@ -173,3 +175,19 @@ module _ (m : Mill) (d : ℤ) (shares : List Share) (t : Tally) (is : IsTally m 
 
   pub opens_few : (limits : Limits) (most : ℕ) → AtMost (Some (pos t.opened)) (times_of most limits.count) ↔ OpensFew limits most shares
   opens_few limits most = (subst (λ n. AtMost (Some (pos n)) (times_of most limits.count)) is.opened_is, subst (λ n. AtMost (Some (pos n)) (times_of most limits.count)) (sym is.opened_is))
+
+-- ---- how large the sums are
+
+pub sums_small : (d : ℕ) (covered : List ℕ) → length covered ≤ 250 → d ≤ 2 ^ 62 → AreWithin d covered → sum covered ≤ 250 * 2 ^ 62
+sums_small d covered few most within = omega (arith, sum_small (2 ^ 62) covered (λ i l. omega (arith, within i l, most)), mul-le-mul_right (2 ^ 62) few)
+
+pub stay_orders : (m : Mill) (d : ℕ) (shares : List Share) (kind : Kind) → StayWithin m d shares kind → OrdersWithin m d shares
+stay_orders m d shares (New size) h = h
+stay_orders m d shares (Old s) h = h.0
+
+pub stay_slabs : (m : Mill) (d : ℕ) (shares : List Share) (s : ℕ) → StayWithin m d shares (Old s) → SlabsWithin m d shares
+stay_slabs m d shares s h = h.1
+
+-- a share's orders are some, so that what it covers is at least its multiplier
+pub share_covers : (times : ℕ) (orders : List ℕ) → 0 < length orders → times ≤ times * length orders
+share_covers times orders some = omega (arith, mul-le-mul_left times some)

@@ -1,6 +1,7 @@
 //! The orders of a slab's line.
-ghost use Rattle.std.specs.Prelude.{◌≡◌, ◌≤◌, ◌+◌, [], IfOk, drop, length, map, vec_capacity};
+ghost use Rattle.std.specs.Prelude.{◌≡◌, ◌≤◌, ◌+◌, [], IfOk, IfSome, IfNone, drop, length, map, vec_capacity};
 ghost use Rattle.std.specs.Bool.{OnTrue, OnFalse};
+ghost use Rattle.cert_rules.specs.Numbers.{Names, index};
 ghost use Rattle.cert_rules.specs.Slabs.{orders_on};
 ghost use Rattle.cert_rules.specs.Spreads.{AreNamed};
 ghost use Rattle.cert_slabs.specs.Roster.{AreListed};
@@ -99,13 +100,29 @@ fn list_orders(numbers: &[i64], count: usize, orders: &mut Vec<u16>) -> bool
     ensures room { 250 ≤ vec_capacity orders.new }
 {
     orders.clear();
-    let mut low = 0;
+    let mut low: u16 = 0;
     for number in numbers {
-        if *number <= low || *number > count as i64 {
+        let Some(order) = named_order(*number, low, count) else {
             return false;
-        }
-        orders.push_reserved((*number - 1) as u16);
-        low = *number;
+        };
+        orders.push_reserved(order);
+        low = order + 1;
     }
     true
+}
+
+// The order that a number names, if it names one of so many, from one on.
+fn named_order(number: i64, low: u16, count: usize) -> Option<u16>
+    requires { count ≤ 250 }
+    ensures named { IfSome result (λ o. Names count number × (index number ≡ o) × (low ≤ o)) }
+    ensures unnamed { IfNone result (Names count number → low ≤ index number → ⊥) }
+{
+    if number < 1 || number > count as i64 {
+        return None;
+    }
+    let order = (number - 1) as u16;
+    if order < low {
+        return None;
+    }
+    Some(order)
 }

@@ -1,18 +1,13 @@
-use Rattle.std.proofs.Common.{rules, ◌≡◌, ◌≢◌, Err, ◌≤◌, ◌<◌, ◌-◌, ◌↔◌, ◌++◌, ◌∷◌, [], false, true, List, IfOk, OnOk, IsTrue, drop, length, slice_index_or, sum_by, count_by, ℕ, ◌+◌, ◌*◌, ◌/◌, ◌%◌, Bool, nat_eq, nat_lt, slice_set, bit_and, bit_or, Fits, w8, w32, w64, Bor, MutBor}
-use Rattle.std.specs.Bool.{OnTrue}
-use Rattle.mill_model.specs.Columns.{Column, Rises}
-use Rattle.mill_model.specs.Columns.{size_of as size_of_kind}
-use Rattle.mill_model.specs.Judging.{is_among}
-use Rattle.mill_model.specs.Plans.{is_new}
-use Rattle.cert_rules.specs.Slabs.{ArePlaceable}
-use Rattle.cert_rules.specs.Slabs.{new_slab as new_slab_of}
-use Rattle.cert_rules.specs.Slabs.{new_rules}
-use Rattle.cert_rules.specs.Slabs.{old_slab as old_slab_of}
-use Rattle.cert_rules.specs.Slabs.{old_rules, orders_on, plan_rules}
-use Rattle.cert_slabs.specs.Answers.{Answers}
-use Rattle.cert_slabs.specs.Drafts.{IsDraft, AreNext, ArePut, IsNextFree}
+use Rattle.std.proofs.Common.{◌≡◌, List, ℕ, drop, length, sym, subst, ◌∙◌, arith}
+use Rattle.std.proofs.lemmas.List.{length-drop}
+use Rattle.cert_rules.specs.Slabs.{orders_on}
+use Rattle.cert_slabs.specs.Drafts.{AreNext}
+use Rattle.cert_slabs.proofs.PlanLines.{placeable_from, next_from}
 use Rattle.cert_slabs.proofs.draft.Draft.are_placeable.Goals as goal
 
--- src/draft.rt:135:5
 pub returns-then-read-clause-place : goal.returns-then-read-clause-place
-returns-then-read-clause-place c = ?
+returns-then-read-clause-place c = λ slabs is.
+    let numbers = drop 1 c.args.numbers.now in
+    let e : c.orders.result.now ≡ orders_on numbers = c.orders.ensures ∙ c.if-read.ensures.orders in
+    (λ t. placeable_from c.args.mill.now slabs c.args.self.now is numbers c.if-read.ensures.named (subst (λ (os : List ℕ). AreNext c.args.self.now.placed os) e (c.are_next.ensures.0 t)),
+    λ place. c.are_next.ensures.1 (subst (λ (os : List ℕ). AreNext c.args.self.now.placed os) (sym e) (next_from c.args.mill.now slabs c.args.self.now is numbers (omega (arith, length-drop 1 c.args.numbers.now, c.requires.count)) place).1))
