@@ -15,7 +15,7 @@ use Rattle.cert_rules.specs.declared.why.Why.{Why}
 use Rattle.cert_rules.specs.declared.why.Why.TheVariants as why
 use Rattle.cert_rules.specs.Rules.{AllKept, FirstBroken}
 use Rattle.cert_rules.specs.Numbers.{Names, index, natural, number_at}
-use Rattle.cert_rules.specs.Slabs.{IsListed, IsPlaced, ArePlaceable, AreAllPlaced, kinds_of, new_rules, old_rules, orders_on, plan_rules}
+use Rattle.cert_rules.specs.Slabs.{IsListed, IsPlaced, ArePlaceable, AreAllPlaced, kinds_of, new_rules, old_slab, old_rules, orders_on, plan_rules}
 use Rattle.cert_rules.specs.Spreads.{AreNamed}
 use Rattle.cert_rules.proofs.Slabs.{has_below, head_has}
 use Rattle.cert_rules.proofs.SlabLines.{each_has, has_each}
@@ -182,6 +182,7 @@ open_more kinds all kind placed new next after room orders draft is all_is put f
   room_fits = draft.room_fits;
 }
   where
+    head : (next ≡ get_or orders 0 0) × (next < length placed)
     head = head_is_next kinds placed next room orders draft is
 
     or_true : (b : Bool) → (b || true) ≡ true
@@ -206,3 +207,11 @@ number_is (x ∷ numbers) n e = cc
 
 pub surplus_is : (m : Mill) (slabs : List Column) (kinds : List Kind) (first : ℤ) (s : ℕ) (b : Bool) → kinds ≡ kinds_of slabs → index first ≡ s → b ≡ is_among kinds (Old s) → is_among (kinds_of slabs) (Old (index first)) ≡ b
 surplus_is m slabs kinds first s b e i h = sym (h ∙ ap₂ (λ ks t. is_among ks (Old t)) e (sym i))
+
+-- the draft with one surplus slab more
+pub old_more : (m : Mill) (slabs : List Column) (draft new : Draft) (numbers : List ℤ) (s : ℕ) (orders : List ℕ) → 1 ≤ length numbers → IsDraft m slabs draft → index (number_at numbers 0) ≡ s → orders ≡ orders_on (drop 1 numbers)
+    → new.kinds ≡ draft.kinds ++ Old s ∷ [] → ArePut draft.placed new.placed orders → IsDraft m (slabs ++ old_slab numbers ∷ []) new
+old_more m slabs draft new numbers s orders some is i os kinds put =
+    let column : Column = record { kind = Old s; orders = orders } in
+    let same : old_slab numbers ≡ column = ap old_slab (front_of numbers some) ∙ ap₂ (λ t xs. let x : Column = record { kind = Old t; orders = xs } in x) i (sym os) in
+    subst (λ (x : Column). IsDraft m (slabs ++ x ∷ []) new) (sym same) (next_draft m slabs draft is column new kinds put)

@@ -1,5 +1,6 @@
 use Rattle.std.proofs.Common.{◌≡◌, ℕ, ◌+◌, ◌++◌, ◌∷◌, [], ◌<◌, cond, get_or, map, take, List, sym, ap, ◌∙◌, length, arith}
-use Rattle.std.proofs.lemmas.List.{take_all, map_more}
+use Rattle.std.proofs.lemmas.Bool.{false≢true}
+use Rattle.std.proofs.lemmas.List.{map_more}
 use Rattle.mill_model.specs.declared.order.Order.{Order}
 use Rattle.mill_model.specs.Columns.{has, order_at, colours_of}
 use Rattle.mill_model.proofs.Colours.{AreColours-push}
@@ -16,7 +17,7 @@ returns-then-not-add c =
     let none : Order = record { weight = 0; colour = 0 } in
     let colour : (get_or c.orders-all.result.now c.from.result none).colour ≡ (order_at m (get_or c.args.orders.now c.loop-order.order-index 0)).colour = ap (λ (os : List Order). (get_or os c.from.result none).colour) c.orders-all.ensures.value ∙ ap (λ o. (order_at m o).colour) c.from.ensures in
     let full = c.if-not-add.ensures.full in
-    (λ f. absurd f, λ few. absurd (omega (arith, few, too_many m c.args.orders.now c.loop-order.colours c.loop-order.order-index m.colour_limit c.loop-order-test.true c.loop-order.invariant.are (ap (has c.loop-order.colours) (sym colour) ∙ full.0) (omega (arith, full.1, c.colour_limit-limit.ensures.value)))))
+    (λ f. absurd (false≢true f), λ few. absurd (omega (arith, few, too_many m c.args.orders.now c.loop-order.colours c.loop-order.order-index m.colour_limit c.loop-order-test.true c.loop-order.invariant.are (ap (has c.loop-order.colours) (sym colour) ∙ full.0) (omega (arith, full.1, c.colour_limit-limit.ensures.value)))))
 
 pub loop-order-preserved : goal.loop-order-preserved
 loop-order-preserved c =

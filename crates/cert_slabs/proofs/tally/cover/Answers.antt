@@ -1,5 +1,5 @@
 use Rattle.std.proofs.Common.{◌≡◌, ◌<◌, ◌≤◌, ◌+◌, ◌*◌, ◌≢◌, ℕ, true, false, ◌||◌, cond, eqb, inl, inr, length, get_or, take, sum, ap, sym, subst, ◌∙◌, arith}
-use Rattle.std.proofs.Math.ListN.{set}
+use Rattle.std.proofs.lemmas.Bool.{false≢true}
 use Rattle.mill_model.specs.Columns.{has}
 use Rattle.cert_slabs.proofs.Rising.{rises_at, new_at, sum_raised}
 use Rattle.cert_slabs.proofs.Covering.{fits_more, added_more, within_more, at_index, still_there}
@@ -11,7 +11,7 @@ bounds-covered-place c = omega (arith, (rises_at 0 (length c.args.covered.now) c
 pub returns-then-sum-most-clause-fits : goal.returns-then-sum-most-clause-fits
 returns-then-sum-most-clause-fits c =
     let at = rises_at 0 (length c.args.covered.now) c.args.orders.now c.loop-order.order-index c.requires.rise c.loop-order-test.true in
-    (λ f. absurd f, λ fits. absurd (omega (arith, c.if-sum-most.true,
+    (λ f. absurd (false≢true f), λ fits. absurd (omega (arith, c.if-sum-most.true,
     at_index c.args.covered.now c.loop-order.covered c.args.orders.now c.args.times c.loop-order.order-index c.loop-order.invariant.added c.requires.rise c.loop-order-test.true c.from-place.result c.from-place.ensures,
     fits c.from-place.result (subst (λ o. has c.args.orders.now o ≡ true) (sym c.from-place.ensures) (still_there c.args.orders.now c.loop-order.order-index c.loop-order-test.true)))))
 

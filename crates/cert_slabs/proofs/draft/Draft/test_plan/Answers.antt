@@ -1,4 +1,4 @@
-use Rattle.std.proofs.Common.{◌≡◌, ◌-◌, List, ap, ap₂, inl, refl, sym, subst, ◌∙◌, length, sum_by, count_by, arith}
+use Rattle.std.proofs.Common.{◌≡◌, ◌≤◌, ◌<◌, ◌-◌, List, ap, ap₂, inl, refl, sym, subst, ◌∙◌, length, sum_by, count_by, arith}
 use Rattle.mill_model.specs.declared.kind.Kind.{Kind}
 use Rattle.mill_model.specs.declared.order.Order.{Order}
 use Rattle.mill_model.specs.declared.sums.Sums.{Sums}
@@ -12,8 +12,7 @@ use Rattle.cert_slabs.proofs.draft.Draft.test_plan.Goals.{then-loss_of-sums-via-
 pub returns-then-self-len-clause-rules : goal.returns-then-self-len-clause-rules
 returns-then-self-len-clause-rules c = λ slabs is.
     let d : Draft = record { kinds = c.self.inside.kinds.items; placed = c.self.inside.placed.items } in
-    let l = c.if-self-len.true in
-    let inside = omega (arith, l, c.len.ensures, c.self.inside.placed.ok) in
+    let inside : c.self.inside.next < length c.self.inside.placed.items = omega (arith, c.if-self-len.true, c.len.ensures, c.self.inside.placed.ok) in
     inl (one_unplaced c.args.mill.now slabs d (subst (IsDraft c.args.mill.now slabs) (sym c.self.view_is) is) c.self.inside.next inside (c.self.invariant.free inside), refl)
 
 pub returns-then-loss_of-sums-clause-rules : goal.returns-then-loss_of-sums-clause-rules
