@@ -1,4 +1,5 @@
-use Rattle.std.proofs.Common.{◌≡◌, ◌≤◌, false, List, drop, length, refl, ap, ap₂, sym, subst, ◌∙◌, arith}
+use Rattle.std.proofs.Common.{rules, ◌≡◌, ◌≤◌, w64, to_z, of_z, false, List, drop, length, refl, ap, ap₂, sym, subst, ◌∙◌, arith}
+use Rattle.std.proofs.Math.Facts.{to_z-of_z}
 use Rattle.std.proofs.lemmas.Bool.{false≢true, true≢false}
 use Rattle.mill_model.specs.declared.kind.Kind.TheVariants.{Old}
 use Rattle.mill_model.specs.Columns.{Column}
@@ -16,7 +17,7 @@ returns-then-has_surplus-clause-rules c = λ slabs is.
     let m = c.args.mill.now in
     let numbers = c.args.numbers.now in
     let some : 1 ≤ length numbers = omega (arith, c.requires.count) in
-    let e : number_at numbers 0 ≡ c.get.result = number_is numbers c.get.result c.get.ensures.value in
+    let e : number_at numbers 0 ≡ to_z w64 (of_z w64 c.get.result) = number_is numbers c.get.result c.get.ensures.value ∙ sym (to_z-of_z {w = w64} {z = c.get.result} (search (rules, c.get.ensures.within))) in
     let yard : Names (length m.yard) (number_at numbers 0) = subst (Names (length m.yard)) (sym e) c.in-Some.ensures.named.0 in
     let i : index (number_at numbers 0) ≡ c.in-Some.slab = ap index e ∙ c.in-Some.ensures.named.1 in
     let kinds : c.deref.result.now ≡ kinds_of slabs = c.deref.ensures.value ∙ ap (λ (d : Draft). d.kinds) c.self.view_is ∙ is.kinds in
@@ -28,7 +29,7 @@ returns-then-not-are_placeable-clause-rules c = λ slabs is.
     let m = c.args.mill.now in
     let numbers = c.args.numbers.now in
     let some : 1 ≤ length numbers = omega (arith, c.requires.count) in
-    let e : number_at numbers 0 ≡ c.get.result = number_is numbers c.get.result c.get.ensures.value in
+    let e : number_at numbers 0 ≡ to_z w64 (of_z w64 c.get.result) = number_is numbers c.get.result c.get.ensures.value ∙ sym (to_z-of_z {w = w64} {z = c.get.result} (search (rules, c.get.ensures.within))) in
     let yard : Names (length m.yard) (number_at numbers 0) = subst (Names (length m.yard)) (sym e) c.in-Some.ensures.named.0 in
     let i : index (number_at numbers 0) ≡ c.in-Some.slab = ap index e ∙ c.in-Some.ensures.named.1 in
     let kinds : c.deref.result.now ≡ kinds_of slabs = c.deref.ensures.value ∙ ap (λ (d : Draft). d.kinds) c.self.view_is ∙ is.kinds in
@@ -40,7 +41,7 @@ returns-in-Err-clause-rules c = λ slabs is.
     let m = c.args.mill.now in
     let numbers = c.args.numbers.now in
     let some : 1 ≤ length numbers = omega (arith, c.requires.count) in
-    let e : number_at numbers 0 ≡ c.get.result = number_is numbers c.get.result c.get.ensures.value in
+    let e : number_at numbers 0 ≡ to_z w64 (of_z w64 c.get.result) = number_is numbers c.get.result c.get.ensures.value ∙ sym (to_z-of_z {w = w64} {z = c.get.result} (search (rules, c.get.ensures.within))) in
     let yard : Names (length m.yard) (number_at numbers 0) = subst (Names (length m.yard)) (sym e) c.in-Some.ensures.named.0 in
     let i : index (number_at numbers 0) ≡ c.in-Some.slab = ap index e ∙ c.in-Some.ensures.named.1 in
     let kinds : c.deref.result.now ≡ kinds_of slabs = c.deref.ensures.value ∙ ap (λ (d : Draft). d.kinds) c.self.view_is ∙ is.kinds in
@@ -57,7 +58,7 @@ returns-in-Ok-clause-rules c = λ slabs is.
     let m = c.args.mill.now in
     let numbers = c.args.numbers.now in
     let some : 1 ≤ length numbers = omega (arith, c.requires.count) in
-    let e : number_at numbers 0 ≡ c.get.result = number_is numbers c.get.result c.get.ensures.value in
+    let e : number_at numbers 0 ≡ to_z w64 (of_z w64 c.get.result) = number_is numbers c.get.result c.get.ensures.value ∙ sym (to_z-of_z {w = w64} {z = c.get.result} (search (rules, c.get.ensures.within))) in
     let yard : Names (length m.yard) (number_at numbers 0) = subst (Names (length m.yard)) (sym e) c.in-Some.ensures.named.0 in
     let i : index (number_at numbers 0) ≡ c.in-Some.slab = ap index e ∙ c.in-Some.ensures.named.1 in
     let kinds : c.deref.result.now ≡ kinds_of slabs = c.deref.ensures.value ∙ ap (λ (d : Draft). d.kinds) c.self.view_is ∙ is.kinds in
@@ -74,7 +75,7 @@ returns-in-Ok-clause-draft c = λ slabs is.
     let m = c.args.mill.now in
     let numbers = c.args.numbers.now in
     let some : 1 ≤ length numbers = omega (arith, c.requires.count) in
-    let e : number_at numbers 0 ≡ c.get.result = number_is numbers c.get.result c.get.ensures.value in
+    let e : number_at numbers 0 ≡ to_z w64 (of_z w64 c.get.result) = number_is numbers c.get.result c.get.ensures.value ∙ sym (to_z-of_z {w = w64} {z = c.get.result} (search (rules, c.get.ensures.within))) in
     let yard : Names (length m.yard) (number_at numbers 0) = subst (Names (length m.yard)) (sym e) c.in-Some.ensures.named.0 in
     let i : index (number_at numbers 0) ≡ c.in-Some.slab = ap index e ∙ c.in-Some.ensures.named.1 in
     let kinds : c.deref.result.now ≡ kinds_of slabs = c.deref.ensures.value ∙ ap (λ (d : Draft). d.kinds) c.self.view_is ∙ is.kinds in

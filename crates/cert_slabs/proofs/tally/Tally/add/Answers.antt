@@ -16,7 +16,7 @@ returns-then-not-cover-clause-cover c = λ shares is.
     (λ f. absurd (false≢true f), λ stay.
     let stays = subst (λ n. StayWithin m n (shares ++ share_of c.args.times c.args.kind c.args.orders.now ∷ []) c.args.kind) same stay in
     c.if-not-cover.ensures.fits.1 (λ o there. subst (λ (xs : List ℕ). get_or xs o 0 + c.args.times ≤ d) (sym c.deref_mut.ensures.value)
-    (orders_fit m (pos d) shares t was c.args.times c.args.kind c.args.orders.now d c.requires.share.rise (stay_orders m d _ c.args.kind stays) o there)))
+    (orders_fit m (pos d) shares t was c.args.times c.args.kind c.args.orders.now d c.requires.share.rise (stay_orders m d (shares ++ share_of c.args.times c.args.kind c.args.orders.now ∷ []) c.args.kind stays) o there)))
 
 pub returns-then-not-use_kind-clause-cover : goal.returns-then-not-use_kind-clause-cover
 returns-then-not-use_kind-clause-cover c = λ shares is.
