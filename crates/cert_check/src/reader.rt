@@ -1,5 +1,5 @@
 //! Bytes in pieces, line by line.
-ghost use Rattle.std.specs.Prelude.{◌≡◌, ◌<◌, ◌≤◌, ◌↔◌, ◌++◌, [], ℕ, List, Err, IfErr, IfOk, IsTrue, None, is_some, length, take, vec_capacity};
+ghost use Rattle.std.specs.Prelude.{◌≡◌, ◌<◌, ◌≤◌, ◌↔◌, ◌++◌, [], ℕ, List, Err, IfErr, IfOk, OnOk, IsTrue, None, is_some, length, take, vec_capacity};
 ghost use Rattle.cert_view.specs.Held.{IsPart};
 ghost use Rattle.cert_rules.specs.Reading.{number_after};
 ghost use Rattle.cert_check.specs.declared.line_why.LineWhy.{LineWhy};
@@ -103,15 +103,23 @@ impl<'m> Reader<'m> {
     pub(crate) fn end(self) -> Result<Ending, Failure>
         ensures accepted { (bytes : List ℕ) → Stands self.entry.reading bytes → IfOk result (HasAccepted self.entry.reading bytes) }
         ensures bad { (bytes : List ℕ) → Stands self.entry.reading bytes → IfErr result (λ f. IsBadAt self.entry.reading.mill self.entry.reading.wanted bytes f.line f.why) }
-        ensures limits { IsInLimits self.entry.reading.mill }
+        ensures limits { OnOk result (IsInLimits self.entry.reading.mill) }
     {
         let over = is_over(self.machine.phase());
         let part = !self.taken && self.held.held() > 0;
-        match self.failed {
+        let Reader {
+            machine,
+            held: _held,
+            taken: _taken,
+            count,
+            failed,
+            spare: _spare,
+        } = self;
+        match failed {
             Some(failure) => Err(failure),
-            None if part => Err(failure_after(self.count, LineWhy::Spelling)),
-            None if !over => Err(failure_after(self.count, LineWhy::End)),
-            None => Ok(self.machine.into_ending()),
+            None if part => Err(failure_after(count, LineWhy::Spelling)),
+            None if !over => Err(failure_after(count, LineWhy::End)),
+            None => Ok(machine.into_ending()),
         }
     }
 
