@@ -547,11 +547,11 @@ module _ (old new : Machine) (rest : Bool) (at : old.kept.phase ≡ phases.Sprea
         here (s ∷ shares) t = let e : true ≡ false = sym t.begun ∙ none in cc
 
     pub spread_no_ask : is_ask line ≡ false → IsRefused old line why.Expect
-    spread_no_ask no = unexpected_after (λ shares t. here shares)
+    spread_no_ask plain = unexpected_after (λ shares t. here shares)
       where
         here : (shares : List Share) → turn_after_shares old.mill spread_goal d shares old.kept.path line ≡ Refused
         here [] = refl
-        here (s ∷ shares) = no_ask old.mill (InTree spread_goal Begins) (cover_rules old.mill (tree_limits spread_goal) (unsigned_abs d) (s ∷ shares)) old.kept.path line no
+        here (s ∷ shares) = no_ask old.mill (InTree spread_goal Begins) (cover_rules old.mill (tree_limits spread_goal) (unsigned_abs d) (s ∷ shares)) old.kept.path line plain
 
     module _ (begun : old.kept.tally.begun ≡ true) (asks : is_ask line ≡ true) where
       abbrev asking : Turn

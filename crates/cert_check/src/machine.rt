@@ -75,7 +75,7 @@ impl<'m> Machine<'m> {
 
     // How the text has ended, with the points.
     pub(crate) fn into_ending(self) -> Ending
-        requires { IsOver (seen self.entry).kept.phase }
+        requires { IsOver (seen self).kept.phase }
         ensures ending { IsEndingOf (seen self.entry).kept result }
         ensures limits { IsInLimits (seen self.entry).mill }
     {
