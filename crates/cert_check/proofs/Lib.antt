@@ -1,4 +1,4 @@
-mod States
-mod Goes
+pub mod States
+pub mod Goes
 pub mod Readings
 pub mod HeldLines
