@@ -2,3 +2,4 @@ pub mod States
 pub mod Goes
 pub mod Readings
 pub mod HeldLines
+pub mod Taking
