@@ -1,9 +1,10 @@
 //! Bytes in pieces, line by line.
-ghost use Rattle.std.specs.Prelude.{◌≡◌, ◌<◌, ◌≤◌, ◌↔◌, ◌++◌, [], ℕ, List, Err, IfErr, IfOk, OnOk, IsTrue, None, is_some, length, take, vec_capacity};
+ghost use Rattle.std.specs.Prelude.{if◌then◌else◌, ◌≡◌, ◌<◌, ◌≤◌, ◌↔◌, ◌++◌, [], ℕ, List, Err, IfErr, IfOk, OnOk, IsTrue, None, is_some, length, take, vec_capacity};
 ghost use Rattle.cert_view.specs.Held.{IsPart};
+ghost use Rattle.cert_view.specs.Line.{next_line};
 ghost use Rattle.cert_rules.specs.Reading.{number_after};
 ghost use Rattle.cert_check.specs.declared.line_why.LineWhy.{LineWhy};
-ghost use Rattle.cert_check.specs.Held.{CarriesColumn, HasColumn, IsOver, IsMoved};
+ghost use Rattle.cert_check.specs.Held.{CarriesColumn, HasColumn, IsOver, IsMoved, line_of_read};
 ghost use Rattle.mill_model.specs.Mill.{IsInLimits};
 ghost use Rattle.cert_check.specs.Endings.{HasAccepted};
 ghost use Rattle.cert_check.specs.Readings.{IsStep, IsSameReader};
@@ -106,7 +107,7 @@ impl<'m> Reader<'m> {
         ensures limits { OnOk result (IsInLimits self.entry.reading.mill) }
     {
         let over = is_over(self.machine.phase());
-        let part = !self.taken && self.held.held() > 0;
+        let part = has_part(self.taken, &self.held);
         let Reader {
             machine,
             held: _held,
@@ -190,11 +191,26 @@ impl<'m> Reader<'m> {
         if !self.taken {
             return None;
         }
-        match self.held.line() {
-            Some(Ok(line)) => Some(line),
-            _ => None,
-        }
+        good_line(&self.held)
     }
+}
+
+// The held line, if it is whole and can be read.
+fn good_line(held: &LineBuf) -> Option<Line<'_>>
+    ensures { result ≡ line_of_read (next_line held.now) }
+{
+    match held.line() {
+        None => None,
+        Some(Err(_)) => None,
+        Some(Ok(line)) => Some(line),
+    }
+}
+
+// Whether bytes of a line are left.
+fn has_part(taken: bool, held: &LineBuf) -> bool
+    ensures { IsTrue result ↔ (0 < length (if taken then [] else held.now)) }
+{
+    !taken && held.held() > 0
 }
 
 // Whether nothing can stand next.
