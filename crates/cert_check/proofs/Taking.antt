@@ -18,6 +18,8 @@ use Rattle.cert_check.specs.declared.failure.Failure.{Failure}
 use Rattle.cert_check.specs.declared.line_why.LineWhy.{LineWhy}
 use Rattle.cert_check.specs.declared.line_why.LineWhy.TheVariants as carried
 use Rattle.cert_check.specs.Held.{IsOver, IsMoved, line_of_read}
+use Rattle.cert_rules.specs.States.Wanted.{Cuts}
+use Rattle.cert_check.specs.Cuts.{CutReading, CutStandsBy, StandsAsCut}
 use Rattle.cert_check.specs.Readings.{Reading, Machine, Stands, StandsBy, Runs, Fails, HasLessRoom, HasBadLine, room, IsSameReader, IsGoodHeld, IsBadHeld}
 use Rattle.cert_check.proofs.Readings.{runs_has_no_bad_line}
 use Rattle.cert_check.proofs.HeldLines.{reading_of, fails_more, extra_stands, part_stands, part_room, line_stands, line_room, bad_stands}
@@ -164,6 +166,9 @@ taken_all old now piece at taken (inr bad) = record {
 
 -- ---- readers of cuts
 
-pub has_failed : (r : Reading) (bytes : List ℕ) (failed : Option Failure) → StandsBy r.wanted r failed bytes → IsTrue (is_some failed) ↔ HasBadLine r.wanted r.mill bytes
-has_failed r bytes None h = (λ t. cc t, λ b. absurd (runs_has_no_bad_line r.wanted r bytes b.0 b.1 h b.2))
-has_failed r bytes (Some failure) h = (λ t. (failure.line, _, h.failed), λ b. refl)
+pub as_reader : (c : CutReading) (bytes : List ℕ) → c.reading.wanted ≡ Cuts → StandsAsCut c bytes → Stands c.reading bytes
+as_reader c bytes cuts h = at c.reading.failed h.stands
+  where
+    at : (failed : Option Failure) → CutStandsBy c failed bytes → StandsBy c.reading.wanted c.reading failed bytes
+    at None b = subst (λ (w : Wanted). Runs w c.reading bytes) (sym cuts) b.runs
+    at (Some failure) b = subst (λ (w : Wanted). Fails w c.reading.mill failure bytes) (sym cuts) b
