@@ -3,3 +3,4 @@ pub mod Goes
 pub mod Readings
 pub mod HeldLines
 pub mod Taking
+pub mod Ends

@@ -1,5 +1,5 @@
 -- What a reader stands for that has taken some bytes, and how much more it can take.
-use Rattle.std.proofs.Common.{◌≡◌, ◌⊎◌, ◌↔◌, ℕ, ◌+◌, ◌<◌, ◌≤◌, inl, inr, Bool, true, false, IsTrue, List, [], ◌∷◌, ◌++◌, length, take, drop, Option, Some, None, is_some, Ok, refl, sym, ap, ◌∙◌, subst, arith, append_assoc, append-nil}
+use Rattle.std.proofs.Common.{◌≡◌, ◌⊎◌, ◌↔◌, ℕ, ◌+◌, ◌<◌, ◌≤◌, inl, inr, if◌then◌else◌, Bool, true, false, IsTrue, List, [], ◌∷◌, ◌++◌, length, take, drop, Option, Some, None, is_some, Ok, refl, sym, ap, ◌∙◌, subst, arith, append_assoc, append-nil}
 use Rattle.std.proofs.lemmas.List.{take-append-drop}
 use Rattle.std.proofs.Math.Seq.{take-add, take-length}
 use Rattle.mill_model.specs.Mill.{Mill}
@@ -18,6 +18,8 @@ use Rattle.cert_check.specs.declared.failure.Failure.{Failure}
 use Rattle.cert_check.specs.declared.line_why.LineWhy.{LineWhy}
 use Rattle.cert_check.specs.declared.line_why.LineWhy.TheVariants as carried
 use Rattle.cert_check.specs.Held.{IsOver, IsMoved, line_of_read}
+use Rattle.cert_rules.specs.States.Wanted.{Cuts}
+use Rattle.cert_check.specs.Cuts.{CutReading, CutStandsBy, StandsAsCut}
 use Rattle.cert_check.specs.Readings.{Reading, Machine, Stands, StandsBy, Runs, Fails, HasLessRoom, HasBadLine, room, IsSameReader, IsGoodHeld, IsBadHeld}
 use Rattle.cert_check.proofs.Readings.{runs_has_no_bad_line}
 use Rattle.cert_check.proofs.HeldLines.{reading_of, fails_more, extra_stands, part_stands, part_room, line_stands, line_room, bad_stands}
@@ -32,6 +34,15 @@ as_running r e = ap (λ (f : Option Failure). record r { failed = f }) e
 
 as_failed : (r : Reading) (failure : Failure) → r.failed ≡ Some failure → r ≡ record r { failed = Some failure }
 as_failed r failure e = ap (λ (f : Option Failure). record r { failed = f }) e
+
+pub assembled : (r : Reading) (m : Machine) (bad : Option Column) (count : ℕ) (held : List ℕ) (failed : Option Failure) → machine_of r bad ≡ m → r.count ≡ count → r.held ≡ held → r.failed ≡ failed → r ≡ reading_of m count held failed
+assembled r m bad count held failed p q s t =
+    ap (λ (x : Machine). reading_of x r.count r.held r.failed) p ∙ ap (λ (x : ℕ). reading_of m x r.held r.failed) q ∙ ap (λ (x : List ℕ). reading_of m count x r.failed) s ∙ ap (λ (x : Option Failure). reading_of m count held x) t
+
+-- what is held where a line that was taken is let go
+pub part_let_go : (taken : Bool) (held : List ℕ) → (taken ≡ false → IsPart held) → IsPart (if taken then [] else held)
+part_let_go true held part = record { no_feed = refl; few = omega arith }
+part_let_go false held part = part refl
 
 -- these bytes more, for whatever the reader stood
 pub record HasTaken (old new : Reading) (fed : List ℕ) : Type 0 where
@@ -66,16 +77,16 @@ module _ (old : Reading) (bad : Option Column) (fed : List ℕ) (running : old.f
 
   module _ (going : IsOver old.kept.phase → ⊥) where
     -- less than a line
-    pub takes_part : (new : Reading) → IsPart (old.held ++ fed) → new ≡ record old { held = old.held ++ fed; failed = None } → HasTaken old new fed
-    takes_part new part e = record {
+    pub takes_part : (new : Reading) → IsPart (old.held ++ fed) → machine_of new bad ≡ was → new.count ≡ old.count → new.held ≡ old.held ++ fed → new.failed ≡ None → HasTaken old new fed
+    takes_part new part same count held failed = let e : new ≡ reading_of was old.count (old.held ++ fed) None = assembled new was bad old.count (old.held ++ fed) None same count held failed in record {
       stands = λ bytes h. subst (λ (r : Reading). Stands r (bytes ++ fed)) (sym e) (part_stands was old.count old.held fed bytes (begun bytes h) going part);
       room = λ bytes h. less new (length fed) (subst (λ (r : Reading). HasLessRoom (reading_of was old.count old.held None) r (length fed)) (sym e) (part_room was old.count old.held fed bytes (begun bytes h) going part));
     }
 
     -- a whole line that keeps its rules
     pub takes_line : (new : Reading) (found : Option Column) → IsSameReader was (machine_of new found) → IsGoodHeld was (machine_of new found) (old.held ++ fed)
-        → new ≡ reading_of (machine_of new found) (number_after old.count) [] None → HasTaken old new fed
-    takes_line new found same good e = record {
+        → new.count ≡ number_after old.count → new.held ≡ [] → new.failed ≡ None → HasTaken old new fed
+    takes_line new found same good count held failed = let e : new ≡ reading_of (machine_of new found) (number_after old.count) [] None = assembled new (machine_of new found) found (number_after old.count) [] None refl count held failed in record {
       stands = λ bytes h. subst (λ (r : Reading). Stands r (bytes ++ fed)) (sym e) (line_stands was old.count old.held fed bytes (begun bytes h) going (machine_of new found) same good);
       room = λ bytes h. less new (length fed) (subst (λ (r : Reading). HasLessRoom (reading_of was old.count old.held None) r (length fed)) (sym e) (line_room was old.count old.held fed bytes (begun bytes h) going (machine_of new found) same good));
     }
@@ -164,6 +175,9 @@ taken_all old now piece at taken (inr bad) = record {
 
 -- ---- readers of cuts
 
-pub has_failed : (r : Reading) (bytes : List ℕ) (failed : Option Failure) → StandsBy r.wanted r failed bytes → IsTrue (is_some failed) ↔ HasBadLine r.wanted r.mill bytes
-has_failed r bytes None h = (λ t. cc t, λ b. absurd (runs_has_no_bad_line r.wanted r bytes b.0 b.1 h b.2))
-has_failed r bytes (Some failure) h = (λ t. (failure.line, _, h.failed), λ b. refl)
+pub as_reader : (c : CutReading) (bytes : List ℕ) → c.reading.wanted ≡ Cuts → StandsAsCut c bytes → Stands c.reading bytes
+as_reader c bytes cuts h = at c.reading.failed h.stands
+  where
+    at : (failed : Option Failure) → CutStandsBy c failed bytes → StandsBy c.reading.wanted c.reading failed bytes
+    at None b = subst (λ (w : Wanted). Runs w c.reading bytes) (sym cuts) b.runs
+    at (Some failure) b = subst (λ (w : Wanted). Fails w c.reading.mill failure bytes) (sym cuts) b
