@@ -1,6 +1,6 @@
 -- What a reader stands for that has taken some bytes, and how much more it can take.
-use Rattle.std.proofs.Common.{◌≡◌, ◌⊎◌, ◌↔◌, ℕ, ◌+◌, ◌<◌, ◌≤◌, inl, inr, if◌then◌else◌, Bool, true, false, IsTrue, List, [], ◌∷◌, ◌++◌, length, take, drop, Option, Some, None, is_some, Ok, refl, sym, ap, ◌∙◌, subst, arith, append_assoc, append-nil}
-use Rattle.std.proofs.lemmas.List.{take-append-drop}
+use Rattle.std.proofs.Common.{◌≡◌, ◌⊎◌, ◌↔◌, ℕ, ◌+◌, ◌<◌, ◌≤◌, inl, inr, if◌then◌else◌, Bool, true, false, IsTrue, List, [], ◌∷◌, ◌++◌, length, take, drop, Option, Some, None, is_some, Result, Ok, Err, refl, sym, ap, ◌∙◌, subst, arith, append_assoc, append-nil}
+use Rattle.std.proofs.lemmas.List.{take-append-drop, length-take-le}
 use Rattle.std.proofs.Math.Seq.{take-add, take-length}
 use Rattle.mill_model.specs.Mill.{Mill}
 use Rattle.mill_model.specs.Columns.{Column}
@@ -13,16 +13,18 @@ use Rattle.cert_view.proofs.Feeds.{read_is_text}
 use Rattle.cert_view.proofs.Buffers.{whole_is_text}
 use Rattle.cert_text.specs.Texts.{IsReadable}
 use Rattle.cert_rules.specs.States.{Wanted}
+use Rattle.cert_rules.specs.declared.why.Why.{Why}
 use Rattle.cert_rules.specs.Reading.{number_after}
 use Rattle.cert_check.specs.declared.failure.Failure.{Failure}
 use Rattle.cert_check.specs.declared.line_why.LineWhy.{LineWhy}
 use Rattle.cert_check.specs.declared.line_why.LineWhy.TheVariants as carried
-use Rattle.cert_check.specs.Held.{IsOver, IsMoved, line_of_read}
+use Rattle.cert_check.specs.Whys.{why_of}
+use Rattle.cert_check.specs.Held.{Reader, CarriesColumn, IsOver, IsMoved, line_of_read}
 use Rattle.cert_rules.specs.States.Wanted.{Cuts}
 use Rattle.cert_check.specs.Cuts.{CutReading, CutStandsBy, StandsAsCut}
-use Rattle.cert_check.specs.Readings.{Reading, Machine, Stands, StandsBy, Runs, Fails, HasLessRoom, HasBadLine, room, IsSameReader, IsGoodHeld, IsBadHeld}
+use Rattle.cert_check.specs.Readings.{Reading, Machine, Stands, StandsBy, Runs, Fails, HasLessRoom, HasBadLine, room, IsSameReader, IsGoodHeld, IsBadHeld, IsRefusedHeld, IsStep}
 use Rattle.cert_check.proofs.Readings.{runs_has_no_bad_line}
-use Rattle.cert_check.proofs.HeldLines.{reading_of, fails_more, extra_stands, part_stands, part_room, line_stands, line_room, bad_stands}
+use Rattle.cert_check.proofs.HeldLines.{reading_of, refused_is_bad, fails_more, extra_stands, part_stands, part_room, line_stands, line_room, bad_stands}
 
 -- ---- a reader and its machine
 
@@ -48,6 +50,9 @@ part_let_go false held part = part refl
 pub record HasTaken (old new : Reading) (fed : List ℕ) : Type 0 where
   pub stands : (bytes : List ℕ) → Stands old bytes → Stands new (bytes ++ fed)
   pub room : (bytes : List ℕ) → Stands old bytes → HasLessRoom old new (length fed)
+
+pub room_of : (old new : Reading) (n : ℕ) (piece : List ℕ) → n ≤ length piece → HasTaken old new (take n piece) → (bytes : List ℕ) → Stands old bytes → HasLessRoom old new n
+room_of old new n piece within h bytes stands = subst (λ (k : ℕ). HasLessRoom old new k) (length-take-le n piece within) (h.room bytes stands)
 
 -- ---- some bytes, up to the end of a line
 
@@ -109,6 +114,53 @@ moved_line old new held fed good =
     subst (λ r. IsMoved held fed [] (line_of_read r)) (sym good.read)
     (let begins : BeginsWith good.line (held ++ fed) (after_line (held ++ fed)) = read_is_text good.line (held ++ fed) good.read in
     (refl, whole_is_text (held ++ fed) good.line good.whole good.read, record { good = begins.good; short = begins.short }))
+
+-- ---- the line that is read, where a reader takes some bytes
+
+-- what a reader is, by its machine and the line that it holds
+abbrev pub reader_of : Machine → ℕ → Bool → List ℕ → Option Failure → Option Line → Reader
+reader_of was count taken held failed last = record { reading = reading_of was count (if taken then [] else held) failed; last = last }
+
+module _ (was now : Machine) (count : ℕ) (taken : Bool) (held : List ℕ) (failed : Option Failure) (last : Option Line) (value : Reader) (view : reader_of was count taken held failed last ≡ value) where
+  module _ (running : value.reading.failed ≡ None) (going : IsOver value.reading.kept.phase → ⊥) (fed after next : List ℕ) (let_go : after ≡ (if taken then [] else held)) (more : next ≡ after ++ fed) where
+    next_is : next ≡ (if taken then [] else held) ++ fed
+    next_is = more ∙ ap (λ (xs : List ℕ). xs ++ fed) let_go
+
+    runs : failed ≡ None
+    runs = ap (λ (v : Reader). v.reading.failed) view ∙ running
+
+    goes : IsOver was.kept.phase → ⊥
+    goes o = going (subst (λ (v : Reader). IsOver v.reading.kept.phase) view o)
+
+    abbrev old : Reading
+    old = reading_of was count (if taken then [] else held) failed
+
+    from_old : (new : Reading) → HasTaken old new fed → HasTaken value.reading new fed
+    from_old new h = subst (λ (v : Reader). HasTaken v.reading new fed) view h
+
+    pub part_has_taken : IsStep was now next None → HasTaken value.reading (reading_of now count next failed) fed
+    part_has_taken step = from_old (reading_of now count next failed) (takes_part old was.bad fed runs goes (reading_of now count next failed) (subst IsPart next_is step.0) (ap (λ (m : Machine). machine_of (reading_of m count next failed) was.bad) step.1) refl next_is runs)
+
+    good_at : (r : Result (Unit {0}) Why) (u : Unit {0}) → r ≡ Ok u → IsStep was now next (Some r) → IsGoodHeld was now ((if taken then [] else held) ++ fed)
+    good_at r u e step = subst (λ (xs : List ℕ). IsGoodHeld was now xs) next_is (subst (λ (x : Result (Unit {0}) Why). IsStep was now next (Some x)) e step)
+
+    pub line_has_taken : (r : Result (Unit {0}) Why) (u : Unit {0}) (n : ℕ) → r ≡ Ok u → IsStep was now next (Some r) → IsSameReader was now → n ≡ number_after count → HasTaken value.reading (reading_of now n [] failed) fed
+    line_has_taken r u n e step same counted = from_old (reading_of now n [] failed) (takes_line old was.bad fed runs goes (reading_of now n [] failed) now.bad same (good_at r u e step) counted refl runs)
+
+    pub bad_has_taken : (r : Result (Unit {0}) Why) (broken : Why) (full : LineWhy) (new : Reading) → r ≡ Err broken → IsStep was now next (Some r) → IsSameReader was now
+        → why_of full ≡ broken → CarriesColumn now.bad full → new.mill ≡ now.mill → new.wanted ≡ now.wanted → new.failed ≡ Some (record { line = number_after count; why = full }) → HasTaken value.reading new fed
+    bad_has_taken r broken full new e step same why carries mill wanted fails =
+        let refused : IsRefusedHeld was now ((if taken then [] else held) ++ fed) broken =
+            subst (λ (xs : List ℕ). IsRefusedHeld was now xs broken) next_is (subst (λ (x : Result (Unit {0}) Why). IsStep was now next (Some x)) e step) in
+        from_old new (takes_bad old was.bad fed runs goes new full (refused_is_bad was now ((if taken then [] else held) ++ fed) broken full refused why carries) (mill ∙ same.mill) (wanted ∙ same.wanted) fails)
+
+    pub part_has_moved : IsMoved value.reading.held fed next None
+    part_has_moved = next_is ∙ ap (λ (v : Reader). v.reading.held ++ fed) view
+
+    pub line_has_moved : (r : Result (Unit {0}) Why) (u : Unit {0}) → r ≡ Ok u → IsStep was now next (Some r) → IsMoved value.reading.held fed [] (line_of_read (next_line next))
+    line_has_moved r u e step =
+        subst (λ (xs : List ℕ). IsMoved value.reading.held fed [] (line_of_read (next_line xs))) (sym next_is)
+        (subst (λ (v : Reader). IsMoved v.reading.held fed [] (line_of_read (next_line ((if taken then [] else held) ++ fed)))) view (moved_line was now (if taken then [] else held) fed (good_at r u e step)))
 
 -- ---- a piece
 
