@@ -4,3 +4,4 @@ pub mod Readings
 pub mod HeldLines
 pub mod Taking
 pub mod Ends
+pub mod Checked
