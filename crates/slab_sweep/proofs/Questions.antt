@@ -74,14 +74,15 @@ module _ (old mid : Counts) (first last : Search) (none : first.nodes ≡ []) (z
       sooner (inl u) = inl (omega arith)
       sooner (inr u) = inr u
 
+  -- an unfinished tree has as many nodes as were opened for it
+  pub refused_few : (rest : List (Option Ask)) (m : Mill) (limit : ℕ) → IsRefused m limit last → rest ≡ outline_of last → length rest ≤ last.opened
+  refused_few rest m limit refused outline = omega (arith, refused.opened, ap length outline, length-append (map ask_of last.nodes) (replicate (last.opened - length last.nodes) None), length-map last.nodes ask_of, length-replicate {A = Option Ask} (last.opened - length last.nodes) None)
+
   pub refused_counted : (was is : Tally) (rest : List (Option Ask)) (m : Mill) (limit : ℕ) → IsRefused m limit last → rest ≡ outline_of last → HaveCauses (bare_count first.nodes) was (bare_count last.nodes) is → AreCounted (length rest) (bare_count last.nodes) old mid was is
   refused_counted was is rest m limit refused outline causes = record {
-    opened = elim nodes_counted [ inl h ↦ inl (omega (arith, few)) | inr h ↦ inr h ];
+    opened = elim nodes_counted [ inl h ↦ inl (omega (arith, refused_few rest m limit refused outline)) | inr h ↦ inr h ];
     marked = record { counted = bares_counted; causes = subst (λ (n : ℕ). HaveCauses n was (bare_count last.nodes) is) none_bare causes };
   }
-    where
-      few : length rest ≤ last.opened
-      few = omega (arith, refused.opened, ap length outline, length-append (map ask_of last.nodes) (replicate (last.opened - length last.nodes) None), length-map last.nodes ask_of, length-replicate {A = Option Ask} (last.opened - length last.nodes) None)
 
 -- ---- the answers
 

@@ -14,7 +14,7 @@ ghost use Rattle.slab_tree.specs.FoundPlans.{IsFoundPlan};
 ghost use Rattle.slab_tree.specs.Marking.{is_bare};
 ghost use Rattle.slab_tree.specs.Standing.{IsOpenPath};
 ghost use Rattle.slab_tree.specs.Searches.{HasBareEnd, IsReady, IsRunning, IsEnded, IsAnswer, IsSameQuestion, limits_of, bare_count};
-ghost use Rattle.slab_tree.specs.Stepping.{IsClosed, IsClosedAtOnce, IsSplitUnder, IsStepped, IsWorkplace};
+ghost use Rattle.slab_tree.specs.Stepping.{IsClosed, IsClosedAtOnce, IsLater, IsSplitUnder, IsStepped, IsWorkplace};
 
 use super::{Ended, Tree};
 use crate::Nodes;
@@ -53,6 +53,7 @@ impl Tree {
         // How it ends.
         ensures ended { IfOk result (IsEnded mill.now nodes.old.limit self.old self.new) }
         ensures memory { OnErr result (IsRunning mill.now self.new) }
+        ensures later { OnErr result (IsLater mill.now self.old self.new) }
         ensures question { IsSameQuestion self.old self.new }
 
         // Limits that are plainly refuted at the start take one node.
@@ -90,6 +91,7 @@ impl Tree {
         requires pool { pool.old.mill ≡ mill.now }
         ensures ended { IfOk result (IsEnded mill.now nodes.old.limit self.old self.new) }
         ensures memory { OnErr result (IsRunning mill.now self.new) }
+        ensures later { OnErr result (IsLater mill.now self.old self.new) }
         ensures question { IsSameQuestion self.old self.new }
         ensures plain { IsPlainlyRefuted mill.now (limits_of self.old) → self.old.nodes ≡ [] → IfOk result IsAnswer }
         ensures one { IsPlainlyRefuted mill.now (limits_of self.old) → self.old.nodes ≡ [] → IfOk result (λ _. self.new.opened ≡ 1) }

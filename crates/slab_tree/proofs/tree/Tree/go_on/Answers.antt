@@ -28,10 +28,20 @@ root_of m t run none = at_root m (HoldsCover m (opening_of t)) (limits_of t) t.p
 one_of : (m : Mill) (t : Search) → IsRunning m t → t.nodes ≡ [] → t.opened ≡ 1
 one_of m t run none = omega (arith, run.opened, ap (λ (ns : List Node). length ns) none, ap waiting (root_of m t run none))
 
+on_err : {A E : Type 0} (r : Result A E) (P : Type 0) → P → OnErr r P
+on_err (Ok x) P p = tt
+on_err (Err e) P p = p
+
 -- ---- before the loop
 
 pub returns-in_err-guide-clause-few : goal.returns-in_err-guide-clause-few
 returns-in_err-guide-clause-few c = few_running c.args.mill.now c.args.self.now c.requires.tree
+
+pub returns-in_err-guide-clause-later : goal.returns-in_err-guide-clause-later
+returns-in_err-guide-clause-later c = on_err c.from_residual-in_err-guide.result (IsLater c.args.mill.now c.args.self.now c.args.self.now) (later_refl c.args.mill.now c.args.self.now)
+
+pub returns-in_err-decisions-clause-later : goal.returns-in_err-decisions-clause-later
+returns-in_err-decisions-clause-later c = on_err c.from_residual-in_err-decisions.result (IsLater c.args.mill.now c.args.self.now c.args.self.now) (later_refl c.args.mill.now c.args.self.now)
 
 pub returns-in_err-decisions-clause-few : goal.returns-in_err-decisions-clause-few
 returns-in_err-decisions-clause-few c = few_running c.args.mill.now c.args.self.now c.requires.tree
@@ -70,12 +80,11 @@ nodes-preserved c =
 pub returns-in_err-step-clause-few : goal.returns-in_err-step-clause-few
 returns-in_err-step-clause-few c = subst (λ (t : Search). t.opened < most_nodes c.args.mill.now) (sym c.in_err-step.ensures.err) (few_running c.args.mill.now c.nodes.self c.nodes.invariant.tree)
 
-on_err : {A E : Type 0} (r : Result A E) (P : Type 0) → P → OnErr r P
-on_err (Ok x) P p = tt
-on_err (Err e) P p = p
-
 pub returns-in_err-step-clause-memory : goal.returns-in_err-step-clause-memory
 returns-in_err-step-clause-memory c = on_err c.from_residual-in_err-step.result (IsRunning c.args.mill.now c.step.new.self) (subst (λ (t : Search). IsRunning c.args.mill.now t) (sym c.in_err-step.ensures.err) c.nodes.invariant.tree)
+
+pub returns-in_err-step-clause-later : goal.returns-in_err-step-clause-later
+returns-in_err-step-clause-later c = on_err c.from_residual-in_err-step.result (IsLater c.args.mill.now c.args.self.now c.step.new.self) (subst (λ (t : Search). IsLater c.args.mill.now c.args.self.now t) (sym c.in_err-step.ensures.err) c.nodes.invariant.later)
 
 -- ---- the end
 
