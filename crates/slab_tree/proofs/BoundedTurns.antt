@@ -25,12 +25,6 @@ turn_greater m smaller limits path a b c (InBox p) fall h isnt w = box_greater m
 turn_greater m smaller limits path a b c (Spread cover ask) fall h isnt w = (cover_greater m smaller limits path fall w.0, w.1)
 turn_greater m smaller limits path a b c (Bare ask) fall h isnt w = (cause_later a b c h w.0, w.1)
 
-pub turn_later : (m : Mill) (limits : Limits) (path : List Decision) (a b c : Tally) (t : Turned) → AreNoLess a b → IsTurn m limits path b c t → IsTurn m limits path a c t
-turn_later m limits path a b c (Refuted p) h w = w
-turn_later m limits path a b c (InBox p) h w = w
-turn_later m limits path a b c (Spread cover ask) h w = w
-turn_later m limits path a b c (Bare ask) h w = (cause_later a b c h w.0, w.1)
-
 pub refuted_or_not : (t : Turned) → IsntRefuted t → IsRefuted t → ⊥
 refuted_or_not (Refuted p) isnt w = isnt p refl
 refuted_or_not (InBox p) isnt w = w

@@ -14,5 +14,4 @@ pub mod BareMarks
 pub mod ShownCovers
 pub mod Remainders
 pub mod Rewriting
-pub mod Numbering
 pub mod Finds

@@ -30,11 +30,6 @@ cause_later a b c h (inl r) = inl (rose_later a.wides b.wides c.wides h.wides r)
 cause_later a b c h (inr (inl r)) = inr (inl (rose_later a.stalls.stalls b.stalls.stalls c.stalls.stalls h.stalls r))
 cause_later a b c h (inr (inr r)) = inr (inr (rose_later a.fulls b.fulls c.fulls h.fulls r))
 
-pub cause_sooner : (a b c : Tally) → AreNoLess b c → HasCause a b → HasCause a c
-cause_sooner a b c h (inl r) = inl (rose_from a.wides c.wides (λ lt. omega (arith, rose_rises a.wides b.wides r lt)) (omega (arith, rose_le a.wides b.wides r)))
-cause_sooner a b c h (inr (inl r)) = inr (inl (rose_from a.stalls.stalls c.stalls.stalls (λ lt. omega (arith, rose_rises a.stalls.stalls b.stalls.stalls r lt)) (omega (arith, rose_le a.stalls.stalls b.stalls.stalls r))))
-cause_sooner a b c h (inr (inr r)) = inr (inr (rose_from a.fulls c.fulls (λ lt. omega (arith, rose_rises a.fulls b.fulls r lt)) (omega (arith, rose_le a.fulls b.fulls r))))
-
 pub causes_same : (b c : ℕ) (s t : Tally) → c ≡ b → AreNoLess s t → HaveCauses b s c t
 causes_same b c s t e h = inl (omega arith)
 

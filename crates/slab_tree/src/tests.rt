@@ -86,12 +86,12 @@ fn tightened(alloc: Global, mill: &Mill, best: Option<Plan>) -> Result<Option<St
     let mut tally = Tally::new();
     let mut tree = Tree::question(alloc, mill, None, best)?;
     match tree.run(alloc, mill, &table, &mut pool, &mut nodes, &mut tally)? {
-        Ended::Least(_plan) => {}
-        Ended::NoPlan => return Ok(None),
-        Ended::Budget => return Ok(None),
+        Ended::Least(_plan) => {
+            let tight = tree.tighten(alloc, mill, &table, &mut pool, &mut nodes, &mut tally)?;
+            Ok(Some(tight.steps(alloc)?))
+        }
+        Ended::NoPlan | Ended::Budget => Ok(None),
     }
-    let tight = tree.tighten(alloc, mill, &table, &mut pool, &mut nodes, &mut tally)?;
-    Ok(Some(tight.steps(alloc)?))
 }
 
 /// Whether the one mark is a cover over 2 by three pairs, each with the multiplier 1.
