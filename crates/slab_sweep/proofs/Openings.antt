@@ -16,7 +16,7 @@ use Rattle.slab_relax.specs.declared.tally.Tally.{Tally}
 use Rattle.slab_tree.specs.Marking.{HasCoverUnlessBare}
 use Rattle.slab_tree.specs.Unfinished.{IsCutTree}
 use Rattle.slab_tree.proofs.Limits.{at_most_refl, at_most_trans, cover_greater}
-use Rattle.slab_tree.proofs.Tallies.{cause_later}
+use Rattle.slab_relax.proofs.Counting.{cause_earlier}
 use Rattle.slab_sweep.specs.Openings.{Telling, loss_below_plan, loss_told, count_after, opening_after}
 use Rattle.slab_sweep.specs.Questions.{opening_of}
 use Rattle.slab_sweep.specs.Made.{IsMade, IsFound, IsNothing, IsCut}
@@ -71,6 +71,6 @@ module _ (told : Telling) (m : Mill) (before : Option Sums) (count : Option ℤ)
         bare_end = here.bare_end;
         path = here.path;
         cut = cut_greater m (opening_of m (count_after before) best) (opening_after told m before) limit bares here.bare_end here.path rest greater here.cut;
-        cause = λ bare. cause_later first old new later (here.cause bare);
+        cause = λ bare. cause_earlier first old new later (here.cause bare);
         few = here.few;
       }

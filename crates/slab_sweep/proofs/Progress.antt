@@ -10,7 +10,7 @@ use Rattle.slab_relax.specs.Tallies.{AreNoLess, HaveCauses}
 use Rattle.slab_relax.specs.declared.tally.Tally.{Tally}
 use Rattle.slab_tree.specs.Counts.{Counts}
 use Rattle.slab_tree.specs.Marking.{bare_marks}
-use Rattle.slab_tree.proofs.Tallies.{no_less_refl, no_less_trans, causes_same, causes_trans}
+use Rattle.slab_relax.proofs.Counting.{no_less_same, no_less_trans, causes_same, causes_trans}
 use Rattle.slab_sweep.specs.declared.swept.Swept.{Swept}
 use Rattle.slab_sweep.specs.declared.swept.Swept.TheVariants.{Complete, NoPlan, Budget}
 use Rattle.slab_sweep.specs.Openings.{Telling, opening_after}
@@ -43,8 +43,8 @@ at_first told m head n t good =
       within = subst (λ (points : List Point). AreWithin n.limit points) (sym none) tt;
       bares = record { counted = inl (omega (arith, ap bares_of none)); causes = inl (omega (arith, ap bares_of none)) };
       room = room_at_first m (questions_left m head) n (few_at_first m head good (last_sums None head) refl);
-      causes = causes_same n.bare n.bare t t refl (no_less_refl t);
-      counters = no_less_refl t;
+      causes = causes_same n.bare n.bare t t refl (no_less_same t);
+      counters = no_less_same t;
       plainly = λ plain empty. subst (λ (points : List Point). StandsPlainly m plain.plan points n n) (sym empty) (omega arith);
     }
 

@@ -2,7 +2,6 @@ pub mod Counts
 pub mod Standing
 pub mod Limits
 pub mod Sums
-pub mod Tallies
 pub mod BoundedTurns
 pub mod Moves
 pub mod Gains
