@@ -75,8 +75,12 @@ fn least(mill: &Mill, plan: &Plan, opened: u64) -> Short {
     }
 }
 
-/// The tightened tree of a question without a count limit that ends with a plan.
-fn tightened(alloc: Global, mill: &Mill, best: Option<Plan>) -> Result<Option<Steps>, AllocError>
+/// The plan that a question without a count limit ends with, and its tightened tree.
+fn tightened(
+    alloc: Global,
+    mill: &Mill,
+    best: Option<Plan>,
+) -> Result<Option<(Plan, Steps)>, AllocError>
     requires { IfSome best (IsStart mill.now None) }
 {
     let table = LossTable::new(alloc, mill)?;
@@ -86,9 +90,9 @@ fn tightened(alloc: Global, mill: &Mill, best: Option<Plan>) -> Result<Option<St
     let mut tally = Tally::new();
     let mut tree = Tree::question(alloc, mill, None, best)?;
     match tree.run(alloc, mill, &table, &mut pool, &mut nodes, &mut tally)? {
-        Ended::Least(_plan) => {
+        Ended::Least(plan) => {
             let tight = tree.tighten(alloc, mill, &table, &mut pool, &mut nodes, &mut tally)?;
-            Ok(Some(tight.steps(alloc)?))
+            Ok(Some((plan, tight.steps(alloc)?)))
         }
         Ended::NoPlan | Ended::Budget => Ok(None),
     }
@@ -136,9 +140,12 @@ fn no_slab_holds_a_heavy_order(rt: HostRuntime) -> Result<(), Fail> {
 fn one_split_shows_three_pairs(rt: HostRuntime) -> Result<(), Fail> {
     let mill = mill_of(rt.alloc(), 10, 3)?;
     let best = pair_and_one(rt.alloc(), &mill)?;
-    let steps = tightened(rt.alloc(), &mill, best)?;
-    let right = match &steps {
-        Some(steps) => steps.list().len() == 3 && shows_three_pairs(steps.marks()),
+    let right = match &tightened(rt.alloc(), &mill, best)? {
+        Some((plan, steps)) => {
+            matches!(plan.place(), [0, 0, 1])
+                && steps.list().len() == 3
+                && shows_three_pairs(steps.marks())
+        }
         None => false,
     };
     assert!(rt; right);
