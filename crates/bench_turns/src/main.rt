@@ -49,7 +49,11 @@ fn run_work<R: Files + AllocGlobal + Print>(rt: &R, work: &Work<'_>) -> io::Resu
     let done = turn_root(rt.alloc(), &mill, work)?;
     println!(rt;
         "{} rounds {} pivots {} wides {} stalls {}",
-        done.answer, done.rounds, done.tally.stalls.pivots(), done.tally.wides.count(), done.tally.stalls.count()
+        done.answer,
+        done.rounds,
+        done.tally.stalls.pivots(),
+        done.tally.wides.count(),
+        done.tally.stalls.count()
     )?;
     Ok(true)
 }

@@ -179,9 +179,18 @@ fn settled_turns(rt: HostRuntime) -> Result<(), Fail> {
     let heavy = split(9, 2, true);
     assert_eq!(rt; answer(rt.alloc(), heavy)?, Short::Refuted(0, 0));
     let apart = split(10, 2, false);
-    assert_eq!(rt; answer(rt.alloc(), within(apart, 9, 2))?, Short::Refuted(1, 0));
-    assert_eq!(rt; answer(rt.alloc(), within(apart, 10, 1))?, Short::Refuted(0, 1));
-    assert_eq!(rt; answer(rt.alloc(), within(apart, 10, 2))?, Short::InBox(10, 2));
+    assert_eq!(rt;
+        answer(rt.alloc(), within(apart, 9, 2))?,
+        Short::Refuted(1, 0)
+    );
+    assert_eq!(rt;
+        answer(rt.alloc(), within(apart, 10, 1))?,
+        Short::Refuted(0, 1)
+    );
+    assert_eq!(rt;
+        answer(rt.alloc(), within(apart, 10, 2))?,
+        Short::InBox(10, 2)
+    );
     assert_eq!(rt; answer(rt.alloc(), on_surplus(true))?, Short::Refuted(0, 0));
     assert_eq!(rt; answer(rt.alloc(), on_surplus(false))?, Short::InBox(3, 0));
     Ok(())

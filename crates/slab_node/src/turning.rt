@@ -92,7 +92,7 @@ pub fn turn(
     // With no cause for less the cover has the least loss that columns of the pool can have.
     ensures least { (HasCause tally.old tally.new → ⊥)
         → IfOk result (λ t. IfSpread t
-            (HasLeastLoss mill.now limits decisions.now.list pool.new.columns)) }
+        (HasLeastLoss mill.now limits decisions.now.list pool.new.columns)) }
 
     // The same in short, for a search that doesn't keep the pool.
     ensures turned { IfOk result (IsTurn mill.now limits decisions.now.list tally.old tally.new) }
