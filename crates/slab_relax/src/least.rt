@@ -4,8 +4,9 @@ ghost use Rattle.mill_model.specs.Columns.{loss_of};
 ghost use Rattle.slab_master.specs.Given.{IsSmall};
 ghost use Rattle.slab_master.specs.Least.{AreCosts};
 ghost use Rattle.slab_master.specs.Spread.{IsSpread};
-ghost use Rattle.slab_relax.specs.PoolCovers.{column_at, IsPoolCover, HasLeastLoss};
-ghost use Rattle.slab_relax.specs.Masters.{IsRestricted, losses_of, allowed_of};
+ghost use Rattle.slab_relax.specs.PoolCovers.{column_at};
+ghost use Rattle.slab_relax.specs.AtNodes.{IsCoverAt, HasLeastLossAt};
+ghost use Rattle.slab_relax.specs.Masters.{IsRestricted, losses_at};
 ghost use Rattle.slab_relax.specs.Tallies.{AreNoLess, HasCause};
 
 use crate::entries::loss_of;
@@ -31,8 +32,8 @@ impl Restricted {
     fn losses(&self, alloc: Global, node: &Node<'_>, pool: &Pool) -> Result<Vec<i64>, AllocError>
         requires mill { pool.now.mill ≡ node.now.mill.now }
         requires restricted { IsRestricted node.now pool.now.columns self.now }
-        ensures value { IfOk result (λ losses. losses.items ≡ losses_of node.now.mill.now (allowed_of node.now.decisions.now.list pool.now.columns)) }
-        ensures costs { IfOk result (λ losses. AreCosts (length self.now.master.columns) losses.items) }
+        ensures value { IfOk result (λ ls. ls.items ≡ losses_at node.now pool.now.columns) }
+        ensures costs { IfOk result (λ ls. AreCosts (length self.now.master.columns) ls.items) }
     {
         let mut losses = Vec::with_capacity(alloc, self.ids.len())?;
         for id in &self.ids {
@@ -53,8 +54,9 @@ impl Restricted {
         requires mill { pool.now.mill ≡ node.now.mill.now }
         requires restricted { IsRestricted node.now pool.now.columns self.old }
         requires spread { IsSpread self.old.master.rows self.old.master.columns found.now }
-        ensures covers { IfOk result (IsPoolCover node.now.mill.now node.now.limits node.now.decisions.now.list pool.now.columns) }
-        ensures least { (HasCause tally.old tally.new → ⊥) → IfOk result (HasLeastLoss node.now.mill.now node.now.limits node.now.decisions.now.list pool.now.columns) }
+        ensures covers { IfOk result (IsCoverAt node.now pool.now.columns) }
+        ensures least { (HasCause tally.old tally.new → ⊥)
+            → IfOk result (HasLeastLossAt node.now pool.now.columns) }
         ensures counters { AreNoLess tally.old tally.new }
     {
         let _legal = pool.len();
