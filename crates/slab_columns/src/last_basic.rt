@@ -90,11 +90,19 @@ fn take_new(list: &mut Vec<ColId>, noted: &mut [bool], ids: &[ColId])
     ensures { (n : ℕ) → AreBelow n ids.now → AreBelow n list.old.items → AreBelow n list.new.items }
 {
     for &id in ids {
-        let place = id.0 as usize;
-        if !noted[place] && list.len() < list.capacity() {
-            noted[place] = true;
-            list.push_reserved(id);
-        }
+        take_if_new(list, noted, id);
+    }
+}
+
+// Appends a number and notes it, unless it is noted or there is no room.
+fn take_if_new(list: &mut Vec<ColId>, noted: &mut [bool], id: ColId)
+    requires { id.0 < length noted.old }
+    ensures { (n : ℕ) → id.0 < n → AreBelow n list.old.items → AreBelow n list.new.items }
+{
+    let place = id.0 as usize;
+    if !noted[place] && list.len() < list.capacity() {
+        noted[place] = true;
+        list.push_reserved(id);
     }
 }
 
