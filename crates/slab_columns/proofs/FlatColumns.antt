@@ -2,9 +2,12 @@
 use Rattle.std.proofs.Common.{◌≡◌, ℕ, zero, suc, ◌+◌, ◌-◌, ◌<◌, ◌≤◌, List, [], ◌∷◌, ◌++◌, Some, length, drop, slice_get, slice_range, refl, ap, arith, length-append}
 use Rattle.std.proofs.lemmas.List.{take-append-le, drop-append-le, length-drop, take_all}
 use Rattle.std.proofs.Math.Seq.{drop-append_seam}
+use Rattle.mill_model.specs.Columns.{Column}
+use Rattle.slab_columns.specs.declared.column.ColId.{ColId}
 use Rattle.slab_columns.specs.declared.flat.Start.{Start}
 use Rattle.slab_columns.specs.Columns.{column_of}
 use Rattle.slab_columns.specs.Flat.{columns_of, end_before, AreLaidOut}
+use Rattle.slab_columns.specs.Recency.{AreBelow}
 
 -- there are as many columns as starts
 pub length-columns_of : (orders : List ℕ) (starts : List Start) → length (columns_of orders starts) ≡ length starts
@@ -60,3 +63,14 @@ columns_of-push orders new (q ∷ starts) s at h =
 pub AreLaidOut-push : (end more : ℕ) (starts : List Start) (s : Start) → s.at ≡ end → AreLaidOut end starts → AreLaidOut (end + more) (starts ++ s ∷ [])
 AreLaidOut-push end more [] s at h = (omega arith, tt)
 AreLaidOut-push end more (q ∷ starts) s at h = (rw (end_before-push (end + more) starts s, at) h.0, AreLaidOut-push end more starts s at h.1)
+
+-- a list with one more column has one more start
+pub length-starts_push : (orders all : List ℕ) (starts more : List Start) (c : Column) → columns_of all more ≡ columns_of orders starts ++ c ∷ [] → length more ≡ length starts + 1
+length-starts_push orders all starts more c e =
+    let longer : length (columns_of all more) ≡ length (columns_of orders starts ++ c ∷ []) = ap length e in
+    let one : length (columns_of orders starts ++ c ∷ []) ≡ length (columns_of orders starts) + 1 = length-append (columns_of orders starts) (c ∷ []) in
+    omega (arith, longer, one, length-columns_of all more, length-columns_of orders starts)
+
+-- numbers below one bound are below a greater one
+pub AreBelow-more : (n m : ℕ) (ids : List ColId) → n ≤ m → AreBelow n ids → AreBelow m ids
+AreBelow-more n m ids le h = λ k d lt. omega (arith, h k d lt, le)
