@@ -33,13 +33,18 @@ pub fn relax(
     ensures grown { HasGrown pool.old pool.new }
 {
     let mut restricted = Restricted::new(alloc, node, pool)?;
+    restricted.hint(alloc, pool)?;
     'rounds: loop {
         match restricted.one_round(alloc, node, pool, tally)? {
             Round::Grew => {}
-            Round::Refuted(prices) => return Ok(Relaxed::Refuted(prices)),
+            Round::Refuted(prices) => {
+                restricted.note(alloc, node, pool)?;
+                return Ok(Relaxed::Refuted(prices));
+            }
             Round::Met(multipliers) => {
-                let cover = restricted.least_cover(alloc, node, pool, &multipliers, tally)?;
-                return Ok(Relaxed::Covered(cover));
+                let relaxed = restricted.least_cover(alloc, node, pool, &multipliers, tally)?;
+                restricted.note(alloc, node, pool)?;
+                return Ok(relaxed);
             }
             Round::Counted => return Ok(Relaxed::Counted),
         }
