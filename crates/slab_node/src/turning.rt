@@ -1,4 +1,4 @@
-ghost use Rattle.std.specs.Prelude.{◌≡◌, ◌≤◌, IfOk, length};
+ghost use Rattle.std.specs.Prelude.{◌≡◌, ◌<◌, ◌≤◌, IfOk, length};
 ghost use Rattle.mill_model.specs.Assignments.{AreSettled};
 ghost use Rattle.mill_model.specs.Decisions.{AreAsks};
 ghost use Rattle.mill_model.specs.Plain.{IsPlainlyRefuted};
@@ -9,7 +9,7 @@ ghost use Rattle.slab_relax.specs.PoolCovers.{IsPoolCover, HasLeastLoss};
 ghost use Rattle.slab_relax.specs.AtNodes.{RefutesAt, IsCoverAt, HasLeastLossAt};
 ghost use Rattle.slab_relax.specs.Tallies.{AreNoLess, HasCause};
 ghost use Rattle.slab_node.specs.AtNodes.{IsInBoxAt, IsOpenAskAt};
-ghost use Rattle.slab_node.specs.Turns.{IsNode, IsInBox, IsOpenAsk, IfRefuted, IfInBox, IfSpread, IfBare, IfAsks, IsRefuted, IsClosed, IsTurn};
+ghost use Rattle.slab_node.specs.Turns.{IsNode, IsRenewed, IsInBox, IsOpenAsk, IfRefuted, IfInBox, IfSpread, IfBare, IfAsks, IsRefuted, IsClosed, IsTurn};
 
 use crate::choose::{Choice, choose};
 use crate::plain::plain_prices;
@@ -101,6 +101,11 @@ pub fn turn(
     ensures counters { AreNoLess tally.old tally.new }
     ensures mill { pool.new.mill ≡ mill.now }
     ensures grown { length pool.old.columns ≤ 4096 → HasGrown pool.old pool.new }
+    ensures renewed { 4096 < length pool.old.columns → IsRenewed pool.old pool.new }
+
+    // Settled decisions and limits that plain prices refute need no pool.
+    ensures unused { AreSettled mill.now decisions.now.list → pool.new ≡ pool.old }
+    ensures untouched { IsPlainlyRefuted mill.now limits → pool.new ≡ pool.old }
 {
     let node = Node {
         mill,
