@@ -72,12 +72,6 @@ zip_all P (id ∷ ids) (x ∷ xs) h = All-cons (λ (part : ColId × Fraction). P
 pub count_is : (m : Mill) (limits : Limits) (decisions : List Decision) (columns : List Column) (ids : List ColId) (given : Given) (xs : List Fraction) → given ≡ master_by m limits decisions columns → AreAllowedIds decisions columns ids → IsSpread given.rows given.columns xs → length xs ≡ length ids
 count_is m limits decisions columns ids given xs is numbers spread = ids_count m limits decisions columns ids xs numbers (subst (λ (g : Given). IsSpread g.rows g.columns xs) is spread)
 
--- a number for each column of the master
-pub columns_count : (m : Mill) (limits : Limits) (decisions : List Decision) (columns : List Column) (ids : List ColId) (given : Given) → given ≡ master_by m limits decisions columns → AreAllowedIds decisions columns ids → length given.columns ≡ length ids
-columns_count m limits decisions columns ids given is numbers =
-    let same : length given.columns ≡ length (map (entries_of m limits) (allowed_of decisions columns)) = ap (λ (g : Given). length g.columns) is in
-    omega (arith, same, length-map (allowed_of decisions columns) (entries_of m limits), ap length numbers.named, length-map ids (column_at columns))
-
 pub pool_cover : (m : Mill) (limits : Limits) (decisions : List Decision) (columns : List Column) (ids : List ColId) (xs : List Fraction) → All (IsLegalColumn m) columns → AreAllowedIds decisions columns ids
     → IsSpread (rows_of m limits) (map (entries_of m limits) (allowed_of decisions columns)) xs → IsPoolCover m limits decisions columns (used_of ids xs)
 pool_cover m limits decisions columns ids xs legal numbers spread = record {

@@ -16,7 +16,7 @@ returns-in-Best-clause-least c none =
     subst (λ (costs : List ℤ). IsLeast c.args.self.now.master costs c.in-Best.x c.in-Best._y) (c.deref.ensures.value ∙ c.in_ok-losses.ensures.value) best in
     let of : HasLeastLoss c.args.node.now.mill.now c.args.node.now.limits c.args.node.now.decisions.now.list c.args.pool.now.columns (used_of c.args.self.now.ids.items c.in-Best.x) =
     least_loss c.args.node.now.mill.now c.args.node.now.limits c.args.node.now.decisions.now.list c.args.pool.now.columns c.args.self.now.ids.items c.args.self.now.master c.in-Best.x c.in-Best._y c.requires.restricted.numbers c.requires.restricted.given least in
-    subst (HasLeastLoss c.args.node.now.mill.now c.args.node.now.limits c.args.node.now.decisions.now.list c.args.pool.now.columns) (sym c.in_ok-lesser.ensures.value) (subst (λ (xs : List Fraction). HasLeastLoss c.args.node.now.mill.now c.args.node.now.limits c.args.node.now.decisions.now.list c.args.pool.now.columns (used_of c.args.self.now.ids.items xs)) (sym c.list.ensures) of)
+    subst (HasLeastLoss c.args.node.now.mill.now c.args.node.now.limits c.args.node.now.decisions.now.list c.args.pool.now.columns) (sym c.in_ok-lesser-in-Best.ensures.value) (subst (λ (xs : List Fraction). HasLeastLoss c.args.node.now.mill.now c.args.node.now.limits c.args.node.now.decisions.now.list c.args.pool.now.columns (used_of c.args.self.now.ids.items xs)) (sym c.list.ensures) of)
 
 pub unreachable-requires : goal.unreachable-requires
 unreachable-requires c =
