@@ -1,7 +1,7 @@
 //! Numbers that go by keys.
 ghost use Rattle.std.specs.Prelude.{◌≡◌, ◌<◌, ◌≤◌, ℕ, IfOk, length, slice_index};
-ghost use Rattle.slab_price.specs.Chains.{IsChainedFrom};
-ghost use Rattle.slab_price.specs.Frames.{AreChainsOf};
+ghost use Rattle.pricing_laws.specs.Chains.{AreChains, IsChainedFrom};
+ghost use Rattle.slab_price.specs.Frames.{chains_of};
 
 use std::alloc::{AllocError, Global};
 
@@ -35,7 +35,8 @@ impl Chains {
     pub(crate) fn new(alloc: Global, keys: &[u16], count: usize) -> Result<Chains, AllocError>
         requires few { length keys.now ≤ 250 }
         requires keys { (i : ℕ) → i < length keys.now → slice_index keys.now i < count }
-        ensures { IfOk result (AreChainsOf (slice_index keys.now) (length keys.now) count) }
+        ensures { IfOk result (λ chains.
+            AreChains (slice_index keys.now) (length keys.now) count (chains_of chains)) }
     {
         let end = keys.len() as u16;
         let mut first = vec![in alloc; end; count]?;

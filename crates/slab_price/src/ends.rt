@@ -3,7 +3,7 @@ ghost use Rattle.std.specs.Prelude.{◌≡◌, ◌+◌, ◌^◌, ◌<◌, ◌≤
 ghost use Rattle.mill_model.specs.declared.kind.Kind.{Kind};
 ghost use Rattle.mill_model.specs.Columns.{IsInStock, size_of};
 ghost use Rattle.pricing_laws.specs.Bounds.{AreEnds};
-ghost use Rattle.slab_price.specs.Tasks.{IsEndOf};
+ghost use Rattle.pricing_laws.specs.Bounds.{IsEndOf};
 
 use crate::task::Task;
 use mill_model::Kind;
@@ -39,7 +39,7 @@ impl Task<'_> {
 
     /// What a new slab that holds the load costs at least, with its sign turned.
     fn end_of_new(&self, load: u32) -> i128
-        ensures most { (size : ℕ) → IsEndOf self.now load (Kind.New size) result }
+        ensures most { (size : ℕ) → IsEndOf self.now.mill.now self.now.prices.now load (Kind.New size) result }
         ensures small { unsigned_abs result ≤ 2 ^ 90 }
     {
         match self.table.size_for(load) {
@@ -52,7 +52,7 @@ impl Task<'_> {
     fn end_of_old(&self, load: u32, slab: u16, before: i128) -> i128
         requires stock { slab < length self.now.mill.now.yard }
         requires small { unsigned_abs before ≤ 2 ^ 90 }
-        ensures most { IsEndOf self.now load (Kind.Old slab) result }
+        ensures most { IsEndOf self.now.mill.now self.now.prices.now load (Kind.Old slab) result }
         ensures grows { before ≤ℤ result }
         ensures small { unsigned_abs result ≤ 2 ^ 90 }
     {
@@ -64,7 +64,7 @@ impl Task<'_> {
 
     /// What a slab that holds the load costs at least, with its sign turned.
     fn end(&self, load: u32) -> i128
-        ensures most { (kind : Kind) → IsEndOf self.now load kind result }
+        ensures most { (kind : Kind) → IsEndOf self.now.mill.now self.now.prices.now load kind result }
         ensures small { unsigned_abs result ≤ 2 ^ 90 }
     {
         let mut end = self.end_of_new(load);

@@ -1,6 +1,8 @@
 //! What stands through a call of pricing.
 ghost use Rattle.std.specs.Prelude.{◌≡◌, ◌+◌, IfOk, length};
-ghost use Rattle.slab_price.specs.Frames.{AreColourKeys, IsFrame};
+ghost use Rattle.pricing_laws.specs.Frames.{AreColourKeys, IsFrame};
+ghost use Rattle.slab_price.specs.Frames.{frame_of};
+ghost use Rattle.slab_price.specs.Tasks.{problem_of};
 
 use crate::chains::Chains;
 use crate::groups::Groups;
@@ -45,7 +47,7 @@ impl Task<'_> {
 
     /// What stands through a call.
     pub(crate) fn frame(&self, alloc: Global) -> Result<Frame, AllocError>
-        ensures { IfOk result (IsFrame self.now) }
+        ensures { IfOk result (λ frame. IsFrame (problem_of self.now) (frame_of frame)) }
     {
         let count = self.mill.orders().len();
         let mut groups = Groups::new(alloc, count)?;

@@ -4,7 +4,8 @@ ghost use Rattle.mill_model.specs.declared.kind.Kind.{Kind};
 ghost use Rattle.mill_model.specs.Columns.{IsInStock, has_barred, size_of};
 ghost use Rattle.mill_model.specs.LeastSizes.{IsOfLeastSize};
 ghost use Rattle.slab_price.specs.Tasks.{problem_of};
-ghost use Rattle.slab_price.specs.Bests.{IsImprovedIn, IsPack, IsColumn, IsOnNew, IsOnYard};
+ghost use Rattle.pricing_laws.specs.Packs.{IsPack, IsColumn, IsOnNew, IsOnYard};
+ghost use Rattle.slab_price.specs.Bests.{IsImprovedIn};
 
 use crate::best::Best;
 use crate::task::Task;
