@@ -44,10 +44,6 @@ pub found_exceeds : (m : Mill) (decisions : List Decision) (p : Prices) (found :
 found_exceeds m decisions p None orders some exceeding none = cc
 found_exceeds m decisions p (Some kind) orders some exceeding none = not_none m decisions p (record { kind = kind; orders = orders }) exceeding none
 
--- what a leaf's search asks for
-pub asked_of : (m : Mill) (numbers : List ℤ) → IsInLimits m → HasCount m numbers → HasSigns (prices_of (length m.orders) numbers) → IsAsked m (prices_of (length m.orders) numbers)
-asked_of m numbers limits count signs = record { limits = limits; pi = pi_length (length m.orders) (length m.yard) numbers count; sigma = sigma_length (length m.orders) (length m.yard) numbers count; sign = signs.0 }
-
 -- numbers of a line are prices
 pub ArePrices-from_numbers : (n : ℕ) (numbers : List ℤ) → 2 + n ≤ length numbers → All IsWithin numbers → ArePrices (prices_of n numbers)
 ArePrices-from_numbers n numbers count within = ArePrices-from_quoted n numbers (record { count = count; range = All-weaker IsWithin IsPrice within_price numbers within })

@@ -63,40 +63,5 @@ product_same z x l k p e h =
 pub add_back : (x y : ℤ) → unsigned_abs x ≤ 2 ^ 110 → unsigned_abs y ≤ 2 ^ 110 → to_z w128 (of_z w128 (to_z w128 (of_z w128 x) +ℤ to_z w128 (of_z w128 y))) ≡ x +ℤ y
 add_back x y a b = omega (arith, ints)
 
--- the greater of a number and a sum, as it was computed
-pub max_back : (left gain next best : ℤ) → unsigned_abs left ≤ 2 ^ 102 → unsigned_abs gain ≤ 2 ^ 84 → unsigned_abs next ≤ 2 ^ 102
-    → best ≡ int_max (to_z w128 (of_z w128 left)) (to_z w128 (of_z w128 (to_z w128 (of_z w128 gain) +ℤ to_z w128 (of_z w128 next)))) → to_z w128 (of_z w128 best) ≡ int_max left (gain +ℤ next)
-max_back left gain next best a b d e =
-    let first : to_z w128 (of_z w128 left) ≡ left = omega (arith, ints) in
-    let second : to_z w128 (of_z w128 (to_z w128 (of_z w128 gain) +ℤ to_z w128 (of_z w128 next))) ≡ gain +ℤ next = omega (arith, ints) in
-    let here : best ≡ int_max left (gain +ℤ next) = e ∙ ap₂ int_max first second in
-    omega (arith, ints, here, int_max_is left (gain +ℤ next))
-
-pub max_left : (left right best : ℤ) → best ≡ int_max left right → left ≤ℤ best
-max_left left right best e = omega (arith, ints, e, int_max_is left right)
-
-pub max_right : (left right best : ℤ) → best ≡ int_max left right → right ≤ℤ best
-max_right left right best e = omega (arith, ints, e, int_max_is left right)
-
 pub max_small : (left gain next best : ℤ) (bound : ℕ) → best ≡ int_max left (gain +ℤ next) → unsigned_abs gain ≤ 2 ^ 84 → unsigned_abs left ≤ bound → unsigned_abs next ≤ bound → unsigned_abs best ≤ bound + 2 ^ 84
 max_small left gain next best bound e a b d = omega (arith, ints, e, int_max_is left (gain +ℤ next))
-
-pub back_small : (x : ℤ) → unsigned_abs x ≤ 2 ^ 110 → to_z w128 (of_z w128 x) ≡ x
-back_small x a = omega (arith, ints)
-
--- a comparison of a sum as it was computed
-pub le_same : (a x b : ℤ) → a ≡ x → le_z a b ≡ true → x ≤ℤ b
-le_same a x b e h = let low : a ≤ℤ b = le_from a b h in subst (λ z. z ≤ℤ b) e low
-  where
-    le_from : (a b : ℤ) → le_z a b ≡ true → a ≤ℤ b
-    le_from a b h = grind (arith, ints)
-
-pub positive_small : (gain best : ℤ) (bound : ℕ) → best ≡ int_max gain (pos 0) → unsigned_abs gain ≤ bound → unsigned_abs best ≤ bound
-positive_small gain best bound e a = omega (arith, ints, e, int_max_is gain (pos 0))
-
--- a comparison of two numbers as they were read
-pub le_back : (a b : ℤ) → unsigned_abs a ≤ 2 ^ 110 → FitsSigned w128 b → le_z (to_z w128 (of_z w128 a)) (to_z w128 (of_z w128 b)) ≡ true → a ≤ℤ b
-le_back a b p q h =
-    let first : to_z w128 (of_z w128 a) ≡ a = omega (arith, ints) in
-    let second : to_z w128 (of_z w128 b) ≡ b = omega (arith, ints, q) in
-    subst (λ z. a ≤ℤ z) second (le_same (to_z w128 (of_z w128 a)) a (to_z w128 (of_z w128 b)) first h)

@@ -3,7 +3,7 @@ ghost use Rattle.std.specs.Prelude.{◌≡◌, ◌+◌, ◌^◌, ◌<◌, ◌≤
 ghost use Rattle.mill_model.specs.declared.kind.Kind.{Kind};
 ghost use Rattle.mill_model.specs.Columns.{IsInStock, size_of};
 ghost use Rattle.pricing_laws.specs.Bounds.{AreEnds};
-ghost use Rattle.price_check.specs.Leaves.{IsEndOf};
+ghost use Rattle.pricing_laws.specs.Bounds.{IsEndOf};
 
 use crate::leaf::Leaf;
 use crate::sizes::least_size;
@@ -38,7 +38,7 @@ pub(crate) fn room_of(mill: &Mill) -> u16
 impl Leaf<'_> {
     /// What a new slab that holds the load costs at least, with its sign turned.
     fn end_of_new(&self, load: u32) -> i128
-        ensures most { (size : ℕ) → IsEndOf self.now load (Kind.New size) result }
+        ensures most { (size : ℕ) → IsEndOf self.now.mill.now self.now.quote.now load (Kind.New size) result }
         ensures small { unsigned_abs result ≤ 2 ^ 90 }
     {
         match least_size(self.mill.sizes(), load) {
@@ -51,7 +51,7 @@ impl Leaf<'_> {
     fn end_of_old(&self, load: u32, slab: u16, before: i128) -> i128
         requires stock { slab < length self.now.mill.now.yard }
         requires small { unsigned_abs before ≤ 2 ^ 90 }
-        ensures most { IsEndOf self.now load (Kind.Old slab) result }
+        ensures most { IsEndOf self.now.mill.now self.now.quote.now load (Kind.Old slab) result }
         ensures grows { before ≤ℤ result }
         ensures small { unsigned_abs result ≤ 2 ^ 90 }
     {
@@ -63,7 +63,7 @@ impl Leaf<'_> {
 
     /// What a slab that holds the load costs at least, with its sign turned.
     fn end(&self, load: u32) -> i128
-        ensures most { (kind : Kind) → IsEndOf self.now load kind result }
+        ensures most { (kind : Kind) → IsEndOf self.now.mill.now self.now.quote.now load kind result }
         ensures small { unsigned_abs result ≤ 2 ^ 90 }
     {
         let mut end = self.end_of_new(load);

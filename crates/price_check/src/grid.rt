@@ -1,5 +1,5 @@
 //! What a table is made from.
-ghost use Rattle.price_check.specs.Grids.{IsGrid};
+ghost use Rattle.pricing_laws.specs.Grids.{IsGrid};
 
 use crate::groups::Groups;
 

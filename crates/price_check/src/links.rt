@@ -1,8 +1,8 @@
 //! Numbers linked to chains by their keys.
 ghost use Rattle.std.specs.Prelude.{◌≡◌, ◌<◌, ◌≤◌, ℕ, length, slice_index, vec_capacity};
 ghost use Rattle.std.proofs.Math.ListN.{replicate};
-ghost use Rattle.price_check.specs.Chains.{IsChainedFrom};
-ghost use Rattle.price_check.specs.Frames.{AreChainsOf};
+ghost use Rattle.pricing_laws.specs.Chains.{AreChains, IsChainedFrom};
+ghost use Rattle.price_check.specs.Frames.{chains_of};
 
 use crate::chains::Chains;
 
@@ -41,7 +41,7 @@ impl Chains {
         requires few { length keys.now ≤ 250 }
         requires count { count ≤ 251 }
         requires keys { (i : ℕ) → i < length keys.now → slice_index keys.now i < count }
-        ensures { AreChainsOf (slice_index keys.now) (length keys.now) count self.new }
+        ensures { AreChains (slice_index keys.now) (length keys.now) count (chains_of self.new) }
     {
         let end = keys.len() as u16;
         refill(&mut self.first, end, count);

@@ -4,7 +4,8 @@ ghost use Rattle.mill_model.specs.declared.kind.Kind.{Kind};
 ghost use Rattle.mill_model.specs.Columns.{IsInStock, has_barred, size_of};
 ghost use Rattle.mill_model.specs.LeastSizes.{IsOfLeastSize};
 ghost use Rattle.price_check.specs.Leaves.{problem_of};
-ghost use Rattle.price_check.specs.Finds.{IsAnswerIn, IsPack, IsColumn, IsOnNew, IsOnYard};
+ghost use Rattle.pricing_laws.specs.Packs.{IsPack, IsColumn, IsOnNew, IsOnYard};
+ghost use Rattle.price_check.specs.Finds.{IsAnswerIn};
 
 use crate::leaf::Leaf;
 use crate::sizes::least_size;

@@ -1,6 +1,8 @@
 //! Filling in what stands through the test of a leaf.
 ghost use Rattle.std.specs.Prelude.{◌≡◌, ◌+◌, ◌≤◌, length, vec_capacity};
-ghost use Rattle.price_check.specs.Frames.{AreColourKeys, IsFrame};
+ghost use Rattle.pricing_laws.specs.Frames.{AreColourKeys, IsFrame};
+ghost use Rattle.price_check.specs.Frames.{AreMarkedIn, frame_of};
+ghost use Rattle.price_check.specs.Leaves.{problem_of};
 ghost use Rattle.price_check.specs.Ready.{HasFrameRoom};
 
 use crate::apart::fill_apart;
@@ -29,7 +31,8 @@ impl Leaf<'_> {
     /// Fills in what stands through the test.
     pub(crate) fn fill_frame(&self, frame: &mut Frame)
         requires { HasFrameRoom (length self.now.mill.now.orders) frame.old }
-        ensures frame { IsFrame self.now frame.new }
+        ensures frame { IsFrame (problem_of self.now) (frame_of frame.new) }
+        ensures apart { AreMarkedIn self.now frame.new.apart.items }
         ensures room { HasFrameRoom (length self.now.mill.now.orders) frame.new }
     {
         let count = self.mill.orders().len();

@@ -7,8 +7,10 @@ ghost use Rattle.pricing_laws.specs.Parts.{left_of};
 ghost use Rattle.pricing_laws.specs.Problems.{ExceedAtMost};
 ghost use Rattle.pricing_laws.specs.Worths.{worth_of};
 ghost use Rattle.price_check.specs.Finds.{IsAnswerIn};
-ghost use Rattle.price_check.specs.Searches.{AreRanked, AreTakenFrom, IsOfSetIn, IsQueue};
+ghost use Rattle.pricing_laws.specs.Searches.{AreRanked, AreTakenFrom, IsOfSetIn, IsQueue};
 ghost use Rattle.price_check.specs.Leaves.{problem_of};
+ghost use Rattle.price_check.specs.Searches.{search_of};
+ghost use Rattle.price_check.specs.Searches.{queue_of};
 
 use crate::hunt::Hunt;
 use crate::picks::Picks;
@@ -56,17 +58,17 @@ impl Search<'_> {
         requires rank { rank ≤ length self.now.frame.now.ranking.items }
         requires left { left ≤ 3 }
         requires small { unsigned_abs worth ≤ 2 ^ 100 }
-        ensures { (taken : List ℕ) → AreTakenFrom self.now rank taken worth
+        ensures { (taken : List ℕ) → AreTakenFrom (search_of self.now) rank taken worth
             → OnTrue result
             (ExceedAtMost (problem_of self.now.leaf) (pos 0)
-            (IsOfSetIn self.now taken rank left)) }
+            (IsOfSetIn (search_of self.now) taken rank left)) }
     {
         worth + i128::from(left) * self.top(rank) <= self.frame.floor
     }
 
     /// Looks for a column of the colours of a queue that exceeds.
     fn walk_queue(&self, colours: &[u16], queue: &Queue, picks: &mut Picks) -> Option<Kind>
-        requires queue { IsQueue self.now colours.now queue.now }
+        requires queue { IsQueue (search_of self.now) colours.now (queue_of queue.now) }
         requires chosen { picks.old.chosen.items ≡ [] }
         ensures chosen { IfNone result (picks.new.chosen.items ≡ []) }
         ensures answer { IsAnswerIn self.now.leaf picks.new.orders.items result
@@ -82,7 +84,7 @@ impl Search<'_> {
 
     /// Looks for a column of some colours that exceeds.
     fn search_set(&self, colours: &[u16], queue: &mut Queue, picks: &mut Picks) -> Option<Kind>
-        requires ranked { AreRanked self.now colours.now }
+        requires ranked { AreRanked (search_of self.now) colours.now }
         requires chosen { picks.old.chosen.items ≡ [] }
         ensures chosen { IfNone result (picks.new.chosen.items ≡ []) }
         ensures answer { IsAnswerIn self.now.leaf picks.new.orders.items result
@@ -104,12 +106,12 @@ impl Search<'_> {
     ) -> Option<Kind>
         requires rank { rank ≤ length self.now.frame.now.ranking.items }
         requires few { length space.old.colours.items + left ≤ self.now.leaf.mill.now.colour_limit }
-        requires taken { AreTakenFrom self.now rank space.old.colours.items worth }
+        requires taken { AreTakenFrom (search_of self.now) rank space.old.colours.items worth }
         requires chosen { picks.old.chosen.items ≡ [] }
         ensures colours { IfNone result (space.new.colours.items ≡ space.old.colours.items) }
         ensures chosen { IfNone result (picks.new.chosen.items ≡ []) }
         ensures answer { IsAnswerIn self.now.leaf picks.new.orders.items result
-            (IsOfSetIn self.now space.old.colours.items rank left) }
+            (IsOfSetIn (search_of self.now) space.old.colours.items rank left) }
     {
         if self.is_hopeless(rank, left, worth) {
             return None;

@@ -4,8 +4,9 @@ ghost use Rattle.std.specs.Bool.{OnTrue};
 ghost use Rattle.pricing_laws.specs.Groups.{members};
 ghost use Rattle.price_check.specs.Finds.{IsAnswerIn};
 ghost use Rattle.pricing_laws.specs.Problems.{ExceedAtMost};
-ghost use Rattle.price_check.specs.Hunts.{AreTakenIn, AreTakenWith, IsChoiceIn, IsChoiceWith, IsMostIn};
+ghost use Rattle.pricing_laws.specs.Hunts.{AreTakenIn, AreTakenWith, IsChoiceIn, IsChoiceWith, IsMostIn};
 ghost use Rattle.price_check.specs.Leaves.{problem_of};
+ghost use Rattle.price_check.specs.Hunts.{hunt_of};
 
 use crate::hunt::Hunt;
 use crate::picks::Picks;
@@ -31,7 +32,7 @@ impl Hunt<'_> {
     fn most(&self, left: usize, load: u32) -> i128
         requires left { left ≤ length self.now.queue.now.heads.items }
         requires load { load < length self.now.search.frame.now.ends.items }
-        ensures most { IsMostIn self.now left load result }
+        ensures most { IsMostIn (hunt_of self.now) left load result }
         ensures small { unsigned_abs result ≤ 2 ^ 110 }
     {
         if left == 0 {
@@ -46,17 +47,17 @@ impl Hunt<'_> {
         requires left { left ≤ length self.now.queue.now.heads.items }
         requires load { load < length self.now.search.frame.now.ends.items }
         requires small { unsigned_abs gain ≤ 2 ^ 92 }
-        ensures { OnTrue result (IsMostIn self.now left load (pos 0 -ℤ gain)) }
+        ensures { OnTrue result (IsMostIn (hunt_of self.now) left load (pos 0 -ℤ gain)) }
     {
         gain + self.most(left, load) <= 0
     }
 
     /// A slab on which the orders of the groups chosen exceed, where that column is allowed.
     fn offer(&self, weight: u32, gain: i128, picks: &mut Picks) -> Option<Kind>
-        requires { AreTakenIn self.now 0 picks.old.chosen.items weight gain }
+        requires { AreTakenIn (hunt_of self.now) 0 picks.old.chosen.items weight gain }
         ensures chosen { picks.new.chosen.items ≡ picks.old.chosen.items }
         ensures answer { IsAnswerIn self.now.search.leaf picks.new.orders.items result
-            (IsChoiceIn self.now picks.old.chosen.items 0) }
+            (IsChoiceIn (hunt_of self.now) picks.old.chosen.items 0) }
     {
         let heads = self.search.frame.groups.heads();
         list_members(heads, &picks.chosen, &mut picks.orders);
@@ -70,13 +71,13 @@ impl Hunt<'_> {
     fn with_group(&self, at: usize, weight: u32, gain: i128, chosen: &[u16]) -> Option<(u32, i128)>
         requires at { at < length self.now.queue.now.heads.items }
         requires light { weight < length self.now.search.frame.now.ends.items }
-        requires taken { AreTakenIn self.now (at + 1) chosen.now weight gain }
+        requires taken { AreTakenIn (hunt_of self.now) (at + 1) chosen.now weight gain }
         ensures none { IfNone result ((most : ℤ)
             → ExceedAtMost (problem_of self.now.search.leaf) most
-            (IsChoiceWith self.now chosen.now at)) }
+            (IsChoiceWith (hunt_of self.now) chosen.now at)) }
         ensures light { IfSome result (λ sums.
             sums.0 < length self.now.search.frame.now.ends.items) }
-        ensures taken { IfSome result (λ sums. AreTakenWith self.now at chosen.now sums.0 sums.1) }
+        ensures taken { IfSome result (λ sums. AreTakenWith (hunt_of self.now) at chosen.now sums.0 sums.1) }
     {
         let head = self.queue.heads[at];
         let heavier = weight + self.search.frame.groups.weight(head as usize);
@@ -99,10 +100,10 @@ impl Hunt<'_> {
         picks: &mut Picks,
     ) -> Option<Kind>
         requires light { weight < length self.now.search.frame.now.ends.items }
-        requires taken { AreTakenIn self.now left picks.old.chosen.items weight gain }
+        requires taken { AreTakenIn (hunt_of self.now) left picks.old.chosen.items weight gain }
         ensures chosen { IfNone result (picks.new.chosen.items ≡ picks.old.chosen.items) }
         ensures answer { IsAnswerIn self.now.search.leaf picks.new.orders.items result
-            (IsChoiceIn self.now picks.old.chosen.items left) }
+            (IsChoiceIn (hunt_of self.now) picks.old.chosen.items left) }
     {
         if self.is_hopeless(left, weight, gain) {
             return None;

@@ -161,14 +161,6 @@ module _ (s : Search) (colours : List ℕ) (at : ℕ) (inside : at < length colo
           only (inl q) = sym (eqb-true (get_or colours at 0) (colour_at s.problem.mill h) q)
           only (inr q) = absurd (has_none (colour_at s.problem.mill h) q)
 
--- no colour is gone through
-pub gathered_none : (s : Search) (colours : List ℕ) → AreGathered s colours (take 0 colours) []
-gathered_none s colours = record { distinct = tt; sound = λ h e. absurd (has_none h e); own = λ h e. absurd (has_none h e); all = λ h of e. absurd (has_none (colour_at s.problem.mill h) e) }
-
--- all are
-pub gathered_all : (s : Search) (colours heads : List ℕ) → AreGathered s colours colours heads → AreGroupsOf s.problem.mill s.frame.groups.heads colours (whole heads)
-gathered_all s colours heads g = record { distinct = g.distinct; sound = g.sound; all = λ h of. g.all h of (of.orders h of.inside of.own) }
-
 -- they are heads of orders
 pub gathered_inside : (s : Search) (colours heads : List ℕ) → AreGathered s colours colours heads → AreHeadsIn s heads
 gathered_inside s colours heads g = record {

@@ -9,8 +9,9 @@ use Rattle.pricing_laws.proofs.Numbers.{le_true}
 use Rattle.pricing_laws.specs.Problems.{ExceedAtMost}
 use Rattle.pricing_laws.proofs.Problems.{exceed_weaker}
 use Rattle.pricing_laws.proofs.Worths.{set_bounded}
-use Rattle.price_check.specs.Searches.{IsOfSetIn}
+use Rattle.pricing_laws.specs.Searches.{IsOfSetIn}
 use Rattle.price_check.specs.Leaves.{problem_of}
+use Rattle.price_check.specs.Searches.{search_of}
 use Rattle.price_check.proofs.search.Search.is_hopeless.Goals as goal
 
 -- a few times a small number
@@ -44,7 +45,7 @@ returns c taken from =
     let floor = s.frame.now.floor in
     let back : to_z w128 (of_z w128 (to_z w128 (of_z w128 c.from.result) *ℤ to_z w128 (of_z w128 top))) ≡ pos left *ℤ top = product_back left top c.from.result c.requires.left c.top.ensures.small c.from.ensures in
     let few : unsigned_abs (pos left *ℤ top) ≤ 3 * 2 ^ 94 = few_small left top c.requires.left c.top.ensures.small in
-    let bound : ExceedAtMost q ((c.args.worth +ℤ pos left *ℤ top) -ℤ floor) (IsOfSetIn s taken c.args.rank left) =
+    let bound : ExceedAtMost q ((c.args.worth +ℤ pos left *ℤ top) -ℤ floor) (IsOfSetIn (search_of s) taken c.args.rank left) =
     set_bounded q s.frame.now.groups s.framed.groups s.frame.now.worths.items s.framed.worths floor s.framed.floor s.leaf.asked.sign s.frame.now.ranking.items c.args.rank left taken c.args.worth top from c.top.ensures.sign c.top.ensures.most in
-    OnTrue_from _ _ (λ e. exceed_weaker q ((c.args.worth +ℤ pos left *ℤ top) -ℤ floor) (pos 0) (IsOfSetIn s taken c.args.rank left) (IsOfSetIn s taken c.args.rank left)
+    OnTrue_from _ _ (λ e. exceed_weaker q ((c.args.worth +ℤ pos left *ℤ top) -ℤ floor) (pos 0) (IsOfSetIn (search_of s) taken c.args.rank left) (IsOfSetIn (search_of s) taken c.args.rank left)
     (low c.args.worth (to_z w128 (of_z w128 (to_z w128 (of_z w128 c.from.result) *ℤ to_z w128 (of_z w128 top)))) (pos left *ℤ top) floor back few c.requires.small s.framed.small e) (λ d allowed set. set) bound)
