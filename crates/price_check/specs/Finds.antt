@@ -1,9 +1,7 @@
 -- What a search for a column that exceeds answers.
-use Rattle.std.specs.Prelude.{◌≡◌, ℕ, ◌^◌, ◌<◌, ◌≤◌, ℤ, pos, unsigned_abs, List, length, Option, IfNone, IfSome}
+use Rattle.std.specs.Prelude.{ℕ, pos, List, Option, IfNone, IfSome}
 use Rattle.mill_model.specs.declared.kind.Kind.{Kind}
-use Rattle.mill_model.specs.declared.kind.Kind.TheVariants.{New, Old}
-use Rattle.mill_model.specs.Columns.{Column, Rises, colours_of, load}
-use Rattle.pricing_laws.specs.Gains.{gains_of}
+use Rattle.mill_model.specs.Columns.{Column}
 use Rattle.pricing_laws.specs.Problems.{Problem, ExceedAtMost}
 use Rattle.price_check.specs.Exceeding.{IsExceeding}
 use Rattle.price_check.specs.Leaves.{problem_of}

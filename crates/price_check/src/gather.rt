@@ -12,7 +12,7 @@ use crate::search::Search;
 use crate::table::step_for;
 
 impl Search<'_> {
-    /// Whether all orders of a group are of some colours.
+    // Whether all orders of a group are of some colours.
     fn is_group_of(&self, head: u16, colours: &[u16]) -> bool
         requires inside { head < length self.now.leaf.mill.now.orders }
         requires own { head_of self.now.frame.now.groups.heads head ≡ head }
@@ -30,7 +30,7 @@ impl Search<'_> {
         true
     }
 
-    /// Gathers the groups whose head has one of the colours.
+    // Gathers the groups whose head has one of the colours.
     fn gather_colour(&self, colours: &[u16], at: usize, queue: &mut Queue)
         requires at { at < length colours.now }
         requires ranked { AreRanked (search_of self.now) colours.now }
@@ -49,7 +49,7 @@ impl Search<'_> {
         }
     }
 
-    /// Gathers the groups of the colours.
+    // Gathers the groups of the colours.
     fn gather(&self, colours: &[u16], queue: &mut Queue)
         requires { AreRanked (search_of self.now) colours.now }
         ensures { AreGathered (search_of self.now) colours.now colours.now queue.new.heads.items }
@@ -60,7 +60,7 @@ impl Search<'_> {
         }
     }
 
-    /// Fills the table of the queue, with the least step for which there is room.
+    // Fills the table of the queue, with the least step for which there is room.
     fn tabulate(&self, queue: &mut Queue)
         requires heads { AreHeadsIn (search_of self.now) queue.old.heads.items }
         ensures heads { queue.new.heads ≡ queue.old.heads }
@@ -79,7 +79,7 @@ impl Search<'_> {
         grid.tabulate(&mut queue.table);
     }
 
-    /// Fills the queue with the groups of the colours.
+    // Fills the queue with the groups of the colours.
     pub(crate) fn fill(&self, colours: &[u16], queue: &mut Queue)
         requires { AreRanked (search_of self.now) colours.now }
         ensures { IsQueue (search_of self.now) colours.now (queue_of queue.new) }

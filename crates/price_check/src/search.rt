@@ -8,7 +8,7 @@ ghost use Rattle.price_check.specs.Leaves.{problem_of};
 use crate::frame::Frame;
 use crate::leaf::Leaf;
 
-/// A leaf, and what stands through its test.
+// A leaf, and what stands through its test.
 #[derive(Clone, Copy)]
 pub(crate) struct Search<'a> {
     pub leaf: Leaf<'a>,

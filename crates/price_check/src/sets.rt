@@ -19,7 +19,7 @@ use crate::search::Search;
 use mill_model::Kind;
 use std::alloc::{AllocError, Global};
 
-/// A set of colours that is gone through, and room for its groups.
+// A set of colours that is gone through, and room for its groups.
 #[derive(Drop)]
 pub(crate) struct Space {
     pub colours: Vec<u16>,
@@ -28,7 +28,7 @@ pub(crate) struct Space {
 }
 
 impl Space {
-    /// No colour yet.
+    // No colour yet.
     pub(crate) fn new(alloc: Global, queue: Queue) -> Result<Space, AllocError> {
         Ok(Space {
             colours: Vec::with_capacity(alloc, 3)?,
@@ -38,7 +38,7 @@ impl Space {
 }
 
 impl Search<'_> {
-    /// What a colour among the first ones of the ranking is worth at most.
+    // What a colour among the first ones of the ranking is worth at most.
     fn top(&self, rank: usize) -> i128
         requires { rank ≤ length self.now.frame.now.ranking.items }
         ensures most { (colour : ℕ)
@@ -53,7 +53,7 @@ impl Search<'_> {
         self.frame.worths[usize::from(self.frame.ranking[rank - 1])]
     }
 
-    /// Whether no column of the colours taken and of some of those left exceeds.
+    // Whether no column of the colours taken and of some of those left exceeds.
     fn is_hopeless(&self, rank: usize, left: u16, worth: i128) -> bool
         requires rank { rank ≤ length self.now.frame.now.ranking.items }
         requires left { left ≤ 3 }
@@ -66,7 +66,7 @@ impl Search<'_> {
         worth + i128::from(left) * self.top(rank) <= self.frame.floor
     }
 
-    /// Looks for a column of the colours of a queue that exceeds.
+    // Looks for a column of the colours of a queue that exceeds.
     fn walk_queue(&self, colours: &[u16], queue: &Queue, picks: &mut Picks) -> Option<Kind>
         requires queue { IsQueue (search_of self.now) colours.now (queue_of queue.now) }
         requires chosen { picks.old.chosen.items ≡ [] }
@@ -82,7 +82,7 @@ impl Search<'_> {
         hunt.walk(queue.heads.len(), 0, 0, picks)
     }
 
-    /// Looks for a column of some colours that exceeds.
+    // Looks for a column of some colours that exceeds.
     fn search_set(&self, colours: &[u16], queue: &mut Queue, picks: &mut Picks) -> Option<Kind>
         requires ranked { AreRanked (search_of self.now) colours.now }
         requires chosen { picks.old.chosen.items ≡ [] }
@@ -94,8 +94,8 @@ impl Search<'_> {
         self.walk_queue(colours, queue, picks)
     }
 
-    /// Looks for a column that exceeds of the colours taken and of at most so many of the first ones of the ranking. Where there
-    /// is one, its orders are listed then. A set is left out only where its bound isn't above 0.
+    // Looks for a column that exceeds of the colours taken and of at most so many of the first ones of the ranking. Where there
+    // is one, its orders are listed then. A set is left out only where its bound isn't above 0.
     pub(crate) fn search_sets(
         &self,
         rank: usize,

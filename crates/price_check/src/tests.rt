@@ -55,7 +55,12 @@ fn broken(path: &mut Path, mill: &Mill, text: &[u8]) -> Option<Bad>
 }
 
 // The rule that a leaf's line breaks with so many colours on a slab, where the first two orders lie apart or no decision stands.
-fn broken_for(alloc: Global, colours: u16, apart: bool, text: &[u8]) -> Result<Option<Bad>, AllocError>
+fn broken_for(
+    alloc: Global,
+    colours: u16,
+    apart: bool,
+    text: &[u8],
+) -> Result<Option<Bad>, AllocError>
     requires { IsBetween 1 3 colours }
 {
     let mill = mill_of(alloc, colours)?;

@@ -1,5 +1,6 @@
 //! The walk over the columns of some colours, group by group.
 ghost use Rattle.std.specs.Prelude.{◌≡◌, ◌+◌, ◌^◌, ◌<◌, ◌≤◌, ℤ, pos, ◌-ℤ◌, unsigned_abs, IfNone, IfSome, length, vec_capacity};
+ghost use Rattle.mill_model.specs.Mill.{most_orders};
 ghost use Rattle.std.specs.Bool.{OnTrue};
 ghost use Rattle.pricing_laws.specs.Groups.{members};
 ghost use Rattle.price_check.specs.Finds.{IsAnswerIn};
@@ -12,10 +13,10 @@ use crate::hunt::Hunt;
 use crate::picks::Picks;
 use mill_model::Kind;
 
-/// Lists the orders whose heads are among some.
+// Lists the orders whose heads are among some.
 fn list_members(heads: &[u16], chosen: &[u16], orders: &mut Vec<u16>)
-    requires few { length heads.now ≤ 250 }
-    requires room { 250 ≤ vec_capacity orders.old }
+    requires few { length heads.now ≤ most_orders }
+    requires room { most_orders ≤ vec_capacity orders.old }
     ensures members { orders.new.items ≡ members heads.now chosen.now }
     ensures room { vec_capacity orders.new ≡ vec_capacity orders.old }
 {
@@ -28,7 +29,7 @@ fn list_members(heads: &[u16], chosen: &[u16], orders: &mut Vec<u16>)
 }
 
 impl Hunt<'_> {
-    /// What the first groups of the queue gain at most beside a load.
+    // What the first groups of the queue gain at most beside a load.
     fn most(&self, left: usize, load: u32) -> i128
         requires left { left ≤ length self.now.queue.now.heads.items }
         requires load { load < length self.now.search.frame.now.ends.items }
@@ -42,7 +43,7 @@ impl Hunt<'_> {
         self.queue.table[left * self.queue.width + column]
     }
 
-    /// Whether the groups chosen and some of the first ones can't exceed.
+    // Whether the groups chosen and some of the first ones can't exceed.
     fn is_hopeless(&self, left: usize, load: u32, gain: i128) -> bool
         requires left { left ≤ length self.now.queue.now.heads.items }
         requires load { load < length self.now.search.frame.now.ends.items }
@@ -52,7 +53,7 @@ impl Hunt<'_> {
         gain + self.most(left, load) <= 0
     }
 
-    /// A slab on which the orders of the groups chosen exceed, where that column is allowed.
+    // A slab on which the orders of the groups chosen exceed, where that column is allowed.
     fn offer(&self, weight: u32, gain: i128, picks: &mut Picks) -> Option<Kind>
         requires { AreTakenIn (hunt_of self.now) 0 picks.old.chosen.items weight gain }
         ensures chosen { picks.new.chosen.items ≡ picks.old.chosen.items }
@@ -67,7 +68,7 @@ impl Hunt<'_> {
         self.search.leaf.offer(weight, gain, &picks.orders)
     }
 
-    /// The weight and the gain with one group more, if a slab holds it too and no decision keeps it apart.
+    // The weight and the gain with one group more, if a slab holds it too and no decision keeps it apart.
     fn with_group(&self, at: usize, weight: u32, gain: i128, chosen: &[u16]) -> Option<(u32, i128)>
         requires at { at < length self.now.queue.now.heads.items }
         requires light { weight < length self.now.search.frame.now.ends.items }
@@ -77,7 +78,8 @@ impl Hunt<'_> {
             (IsChoiceWith (hunt_of self.now) chosen.now at)) }
         ensures light { IfSome result (λ sums.
             sums.0 < length self.now.search.frame.now.ends.items) }
-        ensures taken { IfSome result (λ sums. AreTakenWith (hunt_of self.now) at chosen.now sums.0 sums.1) }
+        ensures taken { IfSome result (λ sums.
+            AreTakenWith (hunt_of self.now) at chosen.now sums.0 sums.1) }
     {
         let head = self.queue.heads[at];
         let heavier = weight + self.search.frame.groups.weight(head as usize);
@@ -90,8 +92,8 @@ impl Hunt<'_> {
         Some((heavier, gain + self.search.frame.groups.gain(head as usize)))
     }
 
-    /// Looks for a column of the groups chosen and some of the first ones of the queue that exceeds. Where there is one, its
-    /// orders are listed then. A branch is left out only where its bound isn't above 0, or where no column has its groups.
+    // Looks for a column of the groups chosen and some of the first ones of the queue that exceeds. Where there is one, its
+    // orders are listed then. A branch is left out only where its bound isn't above 0, or where no column has its groups.
     pub(crate) fn walk(
         &self,
         left: usize,

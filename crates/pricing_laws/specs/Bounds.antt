@@ -2,7 +2,7 @@
 use Rattle.std.specs.Prelude.{ℕ, ◌+◌, ◌-◌, ◌*◌, ◌/◌, ◌^◌, ◌<◌, ◌≤◌, ℤ, pos, ◌+ℤ◌, ◌-ℤ◌, ◌≤ℤ◌, unsigned_abs, List, length, slice_index_or}
 use Rattle.std.specs.List.{sum_by}
 use Rattle.mill_model.specs.declared.kind.Kind.{Kind}
-use Rattle.mill_model.specs.Mill.{Mill}
+use Rattle.mill_model.specs.Mill.{Mill, most_weight}
 use Rattle.mill_model.specs.SignedSums.{total_by}
 use Rattle.mill_model.specs.Columns.{IsInStock, size_of}
 use Rattle.mill_model.specs.Prices.{Prices}
@@ -18,7 +18,7 @@ IsEndOf m p load kind end = IsInStock m kind → load ≤ size_of m kind → (po
 pub record AreEnds (m : Mill) (p : Prices) (ends : List ℤ) : Type 0 where
   pub room : (kind : Kind) → IsInStock m kind → size_of m kind < length ends
   pub some : 0 < length ends
-  pub narrow : length ends ≤ 10001
+  pub narrow : length ends ≤ most_weight + 1
   pub least : (load : ℕ) (kind : Kind) → IsEndOf m p load kind (slice_index_or ends load (pos 0))
   pub small : (load : ℕ) → load < length ends → unsigned_abs (slice_index_or ends load (pos 0)) ≤ 2 ^ 100
 

@@ -1,5 +1,6 @@
 -- What stands through a search, whichever columns it looks for.
 use Rattle.std.specs.Prelude.{◌≡◌, ℕ, ◌+◌, ◌^◌, ◌<◌, ◌≤◌, ℤ, unsigned_abs, List, length, slice_index, cond, eqb}
+use Rattle.mill_model.specs.Prices.{most_price}
 use Rattle.mill_model.specs.Mill.{Mill}
 use Rattle.pricing_laws.specs.Bounds.{AreEnds}
 use Rattle.pricing_laws.specs.Chains.{AreChains, Chains}
@@ -42,4 +43,4 @@ pub record IsFrame (q : Problem) (f : Frame) : Type 0 where
   pub worths : AreWorthsIn q f.groups f.worths
   pub ranking : IsRanking q.mill f.worths f.ranking
   pub floor : IsFloor q.mill q.prices f.floor
-  pub small : unsigned_abs f.floor ≤ 2 ^ 62
+  pub small : unsigned_abs f.floor ≤ most_price

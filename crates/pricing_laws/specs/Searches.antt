@@ -1,6 +1,6 @@
 -- What the search over sets of colours keeps.
 use Rattle.std.specs.Prelude.{◌≡◌, ℕ, ◌+◌, ◌*◌, ◌<◌, ◌≤◌, ℤ, true, List, length, slice_index_or}
-use Rattle.mill_model.specs.Mill.{IsBetween, IsInLimits}
+use Rattle.mill_model.specs.Mill.{IsBetween, IsInLimits, most_orders}
 use Rattle.mill_model.specs.Columns.{Column, has}
 use Rattle.pricing_laws.specs.Bounds.{AreSteps, IsTable}
 use Rattle.pricing_laws.specs.Colours.{AreGroupsOf, IsGroupOf, IsOfSet, colour_at}
@@ -55,7 +55,7 @@ pub record AreGathered (s : Search) (colours some heads : List ℕ) : Type 0 whe
 
 -- heads of orders
 pub record AreHeadsIn (s : Search) (heads : List ℕ) : Type 0 where
-  pub few : length heads ≤ 250
+  pub few : length heads ≤ most_orders
   pub inside : (k : ℕ) → k < length heads → slice_index_or heads k 0 < length s.problem.mill.orders
 
 pub record IsTabulated (s : Search) (queue : Queue) : Type 0 where

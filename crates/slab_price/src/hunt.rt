@@ -7,7 +7,7 @@ ghost use Rattle.slab_price.specs.Searches.{queue_of, search_of};
 use crate::queue::Queue;
 use crate::search::Search;
 
-/// A search, some colours, and the queue of their groups.
+// A search, some colours, and the queue of their groups.
 #[derive(Clone, Copy)]
 pub(crate) struct Hunt<'a> {
     pub search: Search<'a>,

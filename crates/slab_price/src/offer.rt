@@ -12,7 +12,7 @@ use crate::task::Task;
 use mill_model::Kind;
 
 impl Task<'_> {
-    /// Whether one of the orders mustn't lie on the slab.
+    // Whether one of the orders mustn't lie on the slab.
     fn has_barred(&self, kind: Kind, orders: &[u16]) -> bool
         ensures { result ≡ has_barred self.now.mill.now
             (record { kind = kind; orders = orders.now }) }
@@ -28,7 +28,7 @@ impl Task<'_> {
         false
     }
 
-    /// Takes the orders on a slab that holds them, where that column is allowed and better than the best.
+    // Takes the orders on a slab that holds them, where that column is allowed and better than the best.
     fn offer_on(&self, kind: Kind, weight: u32, gain: i128, orders: &[u16], best: &mut Best)
         requires pack { IsPack (problem_of self.now) orders.now weight gain }
         requires stock { IsInStock self.now.mill.now kind }
@@ -46,7 +46,7 @@ impl Task<'_> {
         best.replace(kind, orders, excess);
     }
 
-    /// Takes the orders on the least new slab that holds them, where that column is allowed and better than the best.
+    // Takes the orders on the least new slab that holds them, where that column is allowed and better than the best.
     fn offer_new(&self, weight: u32, gain: i128, orders: &[u16], best: &mut Best)
         requires { IsPack (problem_of self.now) orders.now weight gain }
         ensures { IsImprovedIn self.now best.old best.new (IsOnNew orders.now) }
@@ -56,7 +56,7 @@ impl Task<'_> {
         }
     }
 
-    /// Takes the orders on a surplus slab, where it holds them and that column is allowed and better than the best.
+    // Takes the orders on a surplus slab, where it holds them and that column is allowed and better than the best.
     fn offer_old(&self, slab: u16, weight: u32, gain: i128, orders: &[u16], best: &mut Best)
         requires pack { IsPack (problem_of self.now) orders.now weight gain }
         requires stock { slab < length self.now.mill.now.yard }
@@ -67,7 +67,7 @@ impl Task<'_> {
         }
     }
 
-    /// Takes the orders on the best surplus slab, where that column is allowed and better than the best.
+    // Takes the orders on the best surplus slab, where that column is allowed and better than the best.
     fn offer_yard(&self, weight: u32, gain: i128, orders: &[u16], best: &mut Best)
         requires { IsPack (problem_of self.now) orders.now weight gain }
         ensures { IsImprovedIn self.now best.old best.new
@@ -79,7 +79,7 @@ impl Task<'_> {
         }
     }
 
-    /// Takes the orders on the best slab, where that column is allowed and better than the best.
+    // Takes the orders on the best slab, where that column is allowed and better than the best.
     pub(crate) fn offer(&self, weight: u32, gain: i128, orders: &[u16], best: &mut Best)
         requires { IsPack (problem_of self.now) orders.now weight gain }
         ensures { IsImprovedIn self.now best.old best.new (λ c. c.orders ≡ orders.now) }

@@ -8,7 +8,7 @@ ghost use Rattle.slab_price.specs.Tasks.{problem_of};
 use crate::frame::Frame;
 use crate::task::Task;
 
-/// A task, and what stands through a call.
+// A task, and what stands through a call.
 #[derive(Clone, Copy)]
 pub(crate) struct Search<'a> {
     pub task: Task<'a>,

@@ -18,7 +18,7 @@ use crate::search::Search;
 use smallvec::SmallVec;
 use std::alloc::Global;
 
-/// A set of colours that is gone through, and room for its groups.
+// A set of colours that is gone through, and room for its groups.
 #[derive(Drop)]
 pub(crate) struct Space {
     pub colours: SmallVec<u16, 3>,
@@ -27,7 +27,7 @@ pub(crate) struct Space {
 }
 
 impl Space {
-    /// No colour yet.
+    // No colour yet.
     pub(crate) fn new(alloc: Global, queue: Queue) -> Space
         ensures { result.colours.items ≡ [] }
     {
@@ -39,7 +39,7 @@ impl Space {
 }
 
 impl Search<'_> {
-    /// What a colour among the first ones of the ranking is worth at most.
+    // What a colour among the first ones of the ranking is worth at most.
     fn top(&self, rank: usize) -> i128
         requires { rank ≤ length self.now.frame.now.ranking.items }
         ensures most { (colour : ℕ)
@@ -54,19 +54,20 @@ impl Search<'_> {
         self.frame.worths[usize::from(self.frame.ranking[rank - 1])]
     }
 
-    /// Whether no column of the colours taken and of some of those left exceeds more than the best.
+    // Whether no column of the colours taken and of some of those left exceeds more than the best.
     fn is_hopeless(&self, rank: usize, left: u16, worth: i128, best: i128) -> bool
         requires rank { rank ≤ length self.now.frame.now.ranking.items }
         requires left { left ≤ 3 }
         requires small { unsigned_abs worth ≤ 2 ^ 100 }
         ensures { (taken : List ℕ) → AreTakenFrom (search_of self.now) rank taken worth
             → OnTrue result
-            (ExceedAtMost (problem_of self.now.task) best (IsOfSetIn (search_of self.now) taken rank left)) }
+            (ExceedAtMost (problem_of self.now.task) best
+            (IsOfSetIn (search_of self.now) taken rank left)) }
     {
         worth + i128::from(left) * self.top(rank) - self.frame.floor <= best
     }
 
-    /// Improves the best by the columns of the colours of a queue.
+    // Improves the best by the columns of the colours of a queue.
     fn walk_queue(&self, colours: &[u16], queue: &Queue, picks: &mut Picks)
         requires queue { IsQueue (search_of self.now) colours.now (queue_of queue.now) }
         requires chosen { picks.old.chosen.items ≡ [] }
@@ -82,7 +83,7 @@ impl Search<'_> {
         hunt.walk(queue.heads.len(), 0, 0, picks);
     }
 
-    /// Improves the best by the columns of some colours.
+    // Improves the best by the columns of some colours.
     fn search_set(&self, colours: &[u16], queue: &mut Queue, picks: &mut Picks)
         requires ranked { AreRanked (search_of self.now) colours.now }
         requires chosen { picks.old.chosen.items ≡ [] }
@@ -94,8 +95,8 @@ impl Search<'_> {
         self.walk_queue(colours, queue, picks);
     }
 
-    /// Improves the best by the columns of the colours taken and of at most so many of the first ones of the ranking. A set is
-    /// left out only where its bound isn't above the best.
+    // Improves the best by the columns of the colours taken and of at most so many of the first ones of the ranking. A set is
+    // left out only where its bound isn't above the best.
     pub(crate) fn search_sets(
         &self,
         rank: usize,

@@ -58,7 +58,12 @@ fn decisions_of(alloc: Global, apart: bool) -> Result<Decisions, AllocError>
 }
 
 // What pricing finds: the excess and how many orders on which kind of slab, or 0 and none on a slab of size 0.
-fn found(alloc: Global, mill: &Mill, decisions: &Decisions, prices: &Prices) -> Result<(i128, usize, Kind), AllocError>
+fn found(
+    alloc: Global,
+    mill: &Mill,
+    decisions: &Decisions,
+    prices: &Prices,
+) -> Result<(i128, usize, Kind), AllocError>
     requires orders { decisions.now.orders ≡ length mill.now.orders }
     requires yard { decisions.now.yard ≡ length mill.now.yard }
     requires pi { length prices.now.pi ≡ length mill.now.orders }
@@ -73,7 +78,14 @@ fn found(alloc: Global, mill: &Mill, decisions: &Decisions, prices: &Prices) -> 
 }
 
 // The same for the mill with so many colours on a slab.
-fn found_for(alloc: Global, colours: u16, apart: bool, mu: i8, first: i8, sigma: i8) -> Result<(i128, usize, Kind), AllocError>
+fn found_for(
+    alloc: Global,
+    colours: u16,
+    apart: bool,
+    mu: i8,
+    first: i8,
+    sigma: i8,
+) -> Result<(i128, usize, Kind), AllocError>
     requires { IsBetween 1 3 colours }
 {
     let mill = mill_of(alloc, colours)?;

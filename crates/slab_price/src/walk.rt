@@ -1,5 +1,6 @@
 //! The walk over the columns of some colours, group by group.
 ghost use Rattle.std.specs.Prelude.{◌≡◌, ◌+◌, ◌^◌, ◌<◌, ◌≤◌, ℤ, ◌-ℤ◌, unsigned_abs, IfNone, IfSome, length, vec_capacity};
+ghost use Rattle.mill_model.specs.Mill.{most_orders};
 ghost use Rattle.std.specs.Bool.{OnTrue};
 ghost use Rattle.pricing_laws.specs.Groups.{members};
 ghost use Rattle.slab_price.specs.Bests.{IsImprovedIn};
@@ -12,10 +13,10 @@ use crate::apart::is_apart;
 use crate::hunt::Hunt;
 use crate::picks::Picks;
 
-/// Lists the orders whose heads are among some.
+// Lists the orders whose heads are among some.
 fn list_members(heads: &[u16], chosen: &[u16], orders: &mut Vec<u16>)
-    requires few { length heads.now ≤ 250 }
-    requires room { 250 ≤ vec_capacity orders.old }
+    requires few { length heads.now ≤ most_orders }
+    requires room { most_orders ≤ vec_capacity orders.old }
     ensures members { orders.new.items ≡ members heads.now chosen.now }
     ensures room { vec_capacity orders.new ≡ vec_capacity orders.old }
 {
@@ -28,7 +29,7 @@ fn list_members(heads: &[u16], chosen: &[u16], orders: &mut Vec<u16>)
 }
 
 impl Hunt<'_> {
-    /// What the first groups of the queue gain at most beside a load.
+    // What the first groups of the queue gain at most beside a load.
     fn most(&self, left: usize, load: u32) -> i128
         requires left { left ≤ length self.now.queue.now.heads.items }
         requires load { load < length self.now.search.frame.now.ends.items }
@@ -42,7 +43,7 @@ impl Hunt<'_> {
         self.queue.table[left * self.queue.width + column]
     }
 
-    /// Whether the groups chosen and some of the first ones can't exceed more than the best.
+    // Whether the groups chosen and some of the first ones can't exceed more than the best.
     fn is_hopeless(&self, left: usize, load: u32, gain: i128, best: i128) -> bool
         requires left { left ≤ length self.now.queue.now.heads.items }
         requires load { load < length self.now.search.frame.now.ends.items }
@@ -52,7 +53,7 @@ impl Hunt<'_> {
         gain + self.most(left, load) <= best
     }
 
-    /// Offers the orders of the groups chosen.
+    // Offers the orders of the groups chosen.
     fn offer(&self, weight: u32, gain: i128, picks: &mut Picks)
         requires { AreTakenIn (hunt_of self.now) 0 picks.old.chosen.items weight gain }
         ensures chosen { picks.new.chosen.items ≡ picks.old.chosen.items }
@@ -68,7 +69,7 @@ impl Hunt<'_> {
         }
     }
 
-    /// The weight and the gain with one group more, if a slab holds it too and no decision keeps it apart.
+    // The weight and the gain with one group more, if a slab holds it too and no decision keeps it apart.
     fn with_group(&self, at: usize, weight: u32, gain: i128, chosen: &[u16]) -> Option<(u32, i128)>
         requires at { at < length self.now.queue.now.heads.items }
         requires light { weight < length self.now.search.frame.now.ends.items }
@@ -78,7 +79,8 @@ impl Hunt<'_> {
             (IsChoiceWith (hunt_of self.now) chosen.now at)) }
         ensures light { IfSome result (λ sums.
             sums.0 < length self.now.search.frame.now.ends.items) }
-        ensures taken { IfSome result (λ sums. AreTakenWith (hunt_of self.now) at chosen.now sums.0 sums.1) }
+        ensures taken { IfSome result (λ sums.
+            AreTakenWith (hunt_of self.now) at chosen.now sums.0 sums.1) }
     {
         let head = self.queue.heads[at];
         let heavier = weight + self.search.frame.groups.weight(head as usize);
@@ -91,8 +93,8 @@ impl Hunt<'_> {
         Some((heavier, gain + self.search.frame.groups.gain(head as usize)))
     }
 
-    /// Improves the best by the columns of the groups chosen and some of the first ones of the queue. A branch is left out only
-    /// where its bound isn't above the best, or where no column has its groups.
+    // Improves the best by the columns of the groups chosen and some of the first ones of the queue. A branch is left out only
+    // where its bound isn't above the best, or where no column has its groups.
     pub(crate) fn walk(&self, left: usize, weight: u32, gain: i128, picks: &mut Picks)
         requires light { weight < length self.now.search.frame.now.ends.items }
         requires taken { AreTakenIn (hunt_of self.now) left picks.old.chosen.items weight gain }

@@ -9,7 +9,7 @@ use crate::task::Task;
 use std::alloc::{AllocError, Global};
 
 impl Task<'_> {
-    /// What a group is worth: what it gains, without the loss that its weight saves.
+    // What a group is worth: what it gains, without the loss that its weight saves.
     fn worth(&self, groups: &Groups, head: usize) -> i128
         requires groups { AreGroupsIn (problem_of self.now) groups.now }
         requires head { head < length self.now.mill.now.orders }
@@ -20,7 +20,7 @@ impl Task<'_> {
         groups.gain(head) - saved
     }
 
-    /// For each colour, the positive worths of the groups whose head has it, summed up.
+    // For each colour, the positive worths of the groups whose head has it, summed up.
     pub(crate) fn worths(&self, alloc: Global, groups: &Groups) -> Result<Vec<i128>, AllocError>
         requires { AreGroupsIn (problem_of self.now) groups.now }
         ensures { IfOk result (λ worths. AreWorthsIn (problem_of self.now) groups.now worths.items) }
