@@ -1,22 +1,22 @@
 -- The facts of a walk, by what it goes by.
-use Rattle.std.proofs.Common.{◌≡◌, ℕ, ◌+◌, ◌*◌, ◌/◌, ◌^◌, ◌<◌, ◌≤◌, pos, ◌+ℤ◌, ℤ, true, List, [], ◌∷◌, ◌++◌, length, get_or, refl, subst, ap, arith, append-nil}
+use Rattle.std.proofs.Common.{◌≡◌, ◌⊎◌, ◌-◌, ℕ, ◌+◌, ◌*◌, ◌/◌, ◌^◌, ◌<◌, ◌≤◌, pos, ◌+ℤ◌, ℤ, true, List, [], ◌∷◌, ◌++◌, length, get_or, refl, subst, ap, arith, append-nil}
 use Rattle.std.specs.Prelude.{◌-ℤ◌, unsigned_abs}
 use Rattle.std.proofs.lemmas.Nat.{mul-le}
 use Rattle.std.proofs.lemmas.Int.{ints}
-use Rattle.mill_model.specs.Columns.{Rises, has, load}
+use Rattle.mill_model.specs.Columns.{Column, Rises, has, load}
 use Rattle.pricing_laws.specs.Gains.{gains_of}
 use Rattle.pricing_laws.specs.Groups.{IsApart, members}
 use Rattle.pricing_laws.specs.Groupings.{weight_at, gain_at}
 use Rattle.pricing_laws.specs.Parts.{left_of}
-use Rattle.pricing_laws.specs.Problems.{ExceedAtMost}
-use Rattle.pricing_laws.proofs.Choices.{choice_apart, choice_bounded, choice_heavy, chosen_colours, chosen_gain, chosen_inside, chosen_later, chosen_small, chosen_taken, chosen_weight, queue_inside}
+use Rattle.pricing_laws.specs.Problems.{ExceedAtMost, IsAllowed}
+use Rattle.pricing_laws.proofs.Choices.{choice_apart, choice_bounded, choice_heavy, choice_step, chosen_colours, chosen_gain, chosen_inside, chosen_later, chosen_small, chosen_taken, chosen_weight, queue_inside}
 use Rattle.pricing_laws.proofs.Colours.{colours_few}
 use Rattle.pricing_laws.proofs.Groups.{members_rise}
 use Rattle.pricing_laws.proofs.Parts.{distinct_below, has_left, length-left_of, part_nil}
 use Rattle.pricing_laws.proofs.Tables.{column_within, entry_within, most_at_end, most_from_table}
 use Rattle.pricing_laws.specs.Hunts.{Hunt}
 use Rattle.pricing_laws.specs.Packs.{IsPack}
-use Rattle.pricing_laws.specs.Hunts.{AreTakenIn, IsChoiceIn, IsMostIn}
+use Rattle.pricing_laws.specs.Hunts.{AreTakenIn, IsChoiceIn, IsChoiceWith, IsMostIn}
 
 -- ---- the queue
 
@@ -93,3 +93,9 @@ module _ (h : Hunt) (left : ℕ) (chosen : List ℕ) (weight : ℕ) (gain : ℤ)
 
   pub next_left : AreTakenIn h left chosen weight gain
   next_left = chosen_later h.search.frame.groups h.queue.heads left chosen weight gain taken
+
+-- a choice is one with the next group, or one without it
+pub next_choice : (h : Hunt) (chosen : List ℕ) (left : ℕ) → (left ≡ 0 → ⊥) → (c : Column) → IsAllowed h.search.problem c → IsChoiceIn h chosen left c → IsChoiceWith h chosen (left - 1) c ⊎ IsChoiceIn h chosen (left - 1) c
+next_choice h chosen left some c allowed choice =
+    let next : left ≡ left - 1 + 1 = omega (arith, some) in
+    choice_step h.search.frame.groups.heads h.queue.heads chosen (left - 1) c (subst (λ (k : ℕ). IsChoiceIn h chosen k c) next choice)

@@ -14,3 +14,5 @@ pub mod Gathering
 pub mod Hunting
 pub mod Packs
 pub mod Ranks
+pub mod Products
+pub mod Pairs

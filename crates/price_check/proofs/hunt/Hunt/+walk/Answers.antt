@@ -13,7 +13,7 @@ use Rattle.price_check.specs.declared.hunt.Hunt.{Hunt}
 use Rattle.price_check.specs.Finds.{IsAnswer}
 use Rattle.pricing_laws.specs.Hunts.{AreTakenIn, IsChoiceIn, IsChoiceWith, IsMostIn}
 use Rattle.price_check.specs.Leaves.{problem_of}
-use Rattle.pricing_laws.proofs.Hunting.{next_left, queue_short, taken_bounded, taken_small}
+use Rattle.pricing_laws.proofs.Hunting.{next_choice, next_left, queue_short, taken_bounded, taken_small}
 use Rattle.price_check.proofs.Answering.{answer_both, answer_empty, answer_found, answer_none}
 use Rattle.price_check.proofs.Options.{none_at, none_weaker}
 use Rattle.price_check.specs.Hunts.{hunt_of}
@@ -42,18 +42,12 @@ walk-requires t c =
     let back : to_z w128 (of_z w128 c.args.gain) ≡ c.args.gain = omega (arith, ints, taken_small (hunt_of h) c.args.left chosen c.args.weight c.args.gain c.requires.taken) in
     (search rules, (c.requires.light, subst (AreTakenIn (hunt_of h) (c.args.left - 1) chosen c.args.weight) (sym back) (next_left (hunt_of h) (c.args.left - 1) chosen c.args.weight c.args.gain taken)))
 
--- a choice is one with the next group, or one without it
-step : (h : Hunt) (chosen : List ℕ) (left : ℕ) → (left ≡ 0 → ⊥) → (c : Column) → IsAllowed (problem_of h.search.leaf) c → IsChoiceIn (hunt_of h) chosen left c → IsChoiceWith (hunt_of h) chosen (left - 1) c ⊎ IsChoiceIn (hunt_of h) chosen (left - 1) c
-step h chosen left some c allowed choice =
-    let next : left ≡ left - 1 + 1 = omega (arith, some) in
-    choice_step h.search.frame.now.groups.heads h.queue.now.heads.items chosen (left - 1) c (subst (λ (k : ℕ). IsChoiceIn (hunt_of h) chosen k c) next choice)
-
 pub returns-in_default-clause-answer : goal.returns-in_default-clause-answer
 returns-in_default-clause-answer t c =
     let h = c.args.self.now in
     let chosen = c.args.picks.now.chosen.items in
     let q = problem_of h.search.leaf in
-    answer_both q c.walk.new.picks.orders.items c.walk.result (IsChoiceWith (hunt_of h) chosen (c.args.left - 1)) (IsChoiceIn (hunt_of h) chosen (c.args.left - 1)) (IsChoiceIn (hunt_of h) chosen c.args.left) (step h chosen c.args.left c.if-left-eq0.false)
+    answer_both q c.walk.new.picks.orders.items c.walk.result (IsChoiceWith (hunt_of h) chosen (c.args.left - 1)) (IsChoiceIn (hunt_of h) chosen (c.args.left - 1)) (IsChoiceIn (hunt_of h) chosen c.args.left) (next_choice (hunt_of h) chosen c.args.left c.if-left-eq0.false)
     (subst (λ (os : List ℕ). ExceedAtMost q (pos 0) (IsChoiceWith (hunt_of h) os (c.args.left - 1))) c.deref.ensures.value (c.in_default.ensures.none (pos 0))) c.walk.ensures.answer
 
 pub push_reserved-requires : goal.push_reserved-requires
@@ -98,4 +92,4 @@ returns-clause-answer t c =
     let same : c.pop.new.self.items ≡ chosen = popped chosen c.walk-found.new.picks.chosen.items c.pop.new.self.items c.index.result.now _ (kept ∙ c.push_reserved.ensures.items) c.walk-found.new.picks.chosen.ok.0 c.pop.ensures.rest in
     let first : ExceedAtMost q (pos 0) (IsChoiceWith (hunt_of h) chosen at) = subst (λ (os : List ℕ). ExceedAtMost q (pos 0) (IsChoiceIn (hunt_of h) os at)) pushed (answer_empty q c.walk-found.new.picks.orders.items c.walk-found.result _ (sym c.is_some.ensures ∙ c.if-is_some.false) c.walk-found.ensures.answer) in
     let second : IsAnswer q c.walk-2.new.picks.orders.items c.walk-2.result (IsChoiceIn (hunt_of h) chosen at) = subst (λ (os : List ℕ). IsAnswer q c.walk-2.new.picks.orders.items c.walk-2.result (IsChoiceIn (hunt_of h) os at)) same c.walk-2.ensures.answer in
-    answer_both q c.walk-2.new.picks.orders.items c.walk-2.result (IsChoiceWith (hunt_of h) chosen at) (IsChoiceIn (hunt_of h) chosen at) (IsChoiceIn (hunt_of h) chosen c.args.left) (step h chosen c.args.left c.if-left-eq0.false) first second
+    answer_both q c.walk-2.new.picks.orders.items c.walk-2.result (IsChoiceWith (hunt_of h) chosen at) (IsChoiceIn (hunt_of h) chosen at) (IsChoiceIn (hunt_of h) chosen c.args.left) (next_choice (hunt_of h) chosen c.args.left c.if-left-eq0.false) first second

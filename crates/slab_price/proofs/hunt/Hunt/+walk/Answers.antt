@@ -14,7 +14,7 @@ use Rattle.slab_price.specs.declared.hunt.Hunt.{Hunt}
 use Rattle.slab_price.specs.Bests.{IsImproved}
 use Rattle.pricing_laws.specs.Hunts.{AreTakenIn, IsChoiceIn, IsChoiceWith, IsMostIn}
 use Rattle.slab_price.specs.Tasks.{problem_of}
-use Rattle.pricing_laws.proofs.Hunting.{next_left, queue_short, taken_bounded, taken_small}
+use Rattle.pricing_laws.proofs.Hunting.{next_choice, next_left, queue_short, taken_bounded, taken_small}
 use Rattle.slab_price.proofs.Improving.{improved_both, improved_same}
 use Rattle.slab_price.specs.Hunts.{hunt_of}
 use Rattle.slab_price.proofs.hunt.Hunt.+walk.Goals as goal
@@ -43,12 +43,6 @@ walk-requires t c =
     let back : to_z w128 (of_z w128 c.args.gain) ≡ c.args.gain = omega (arith, ints, taken_small (hunt_of h) c.args.left chosen c.args.weight c.args.gain c.requires.taken) in
     (search rules, (c.requires.light, subst (AreTakenIn (hunt_of h) (c.args.left - 1) chosen c.args.weight) (sym back) (next_left (hunt_of h) (c.args.left - 1) chosen c.args.weight c.args.gain taken)))
 
--- a choice is one with the next group, or one without it
-step : (h : Hunt) (chosen : List ℕ) (left : ℕ) → (left ≡ 0 → ⊥) → (c : Column) → IsAllowed (problem_of h.search.task) c → IsChoiceIn (hunt_of h) chosen left c → IsChoiceWith (hunt_of h) chosen (left - 1) c ⊎ IsChoiceIn (hunt_of h) chosen (left - 1) c
-step h chosen left some c allowed choice =
-    let next : left ≡ left - 1 + 1 = omega (arith, some) in
-    choice_step h.search.frame.now.groups.heads h.queue.now.heads.items chosen (left - 1) c (subst (λ (k : ℕ). IsChoiceIn (hunt_of h) chosen k c) next choice)
-
 pub returns-in_default-clause-improved : goal.returns-in_default-clause-improved
 returns-in_default-clause-improved t c =
     let h = c.args.self.now in
@@ -57,7 +51,7 @@ returns-in_default-clause-improved t c =
     record {
       kept = c.walk.ensures.improved.kept;
       grows = c.walk.ensures.improved.grows;
-      most = exceed_both q c.walk.new.picks.best.excess c.walk.new.picks.best.excess (IsChoiceWith (hunt_of h) chosen (c.args.left - 1)) (IsChoiceIn (hunt_of h) chosen (c.args.left - 1)) (IsChoiceIn (hunt_of h) chosen c.args.left) (omega (arith, ints)) (step h chosen c.args.left c.if-left-eq0.false)
+      most = exceed_both q c.walk.new.picks.best.excess c.walk.new.picks.best.excess (IsChoiceWith (hunt_of h) chosen (c.args.left - 1)) (IsChoiceIn (hunt_of h) chosen (c.args.left - 1)) (IsChoiceIn (hunt_of h) chosen c.args.left) (omega (arith, ints)) (next_choice (hunt_of h) chosen c.args.left c.if-left-eq0.false)
           (subst (λ (os : List ℕ). ExceedAtMost q c.walk.new.picks.best.excess (IsChoiceWith (hunt_of h) os (c.args.left - 1))) c.deref.ensures.value (c.in_default.ensures.none c.walk.new.picks.best.excess)) c.walk.ensures.improved.most;
     }
 
@@ -89,4 +83,4 @@ returns-clause-improved t c =
     let same : c.pop.new.self.items ≡ chosen = popped chosen c.walk-2.new.picks.chosen.items c.pop.new.self.items c.index.result.now _ (c.walk-2.ensures.chosen ∙ c.push_reserved.ensures.items) c.walk-2.new.picks.chosen.ok.0 c.pop.ensures.rest in
     let first : IsImproved q c.args.picks.now.best c.walk-2.new.picks.best (IsChoiceWith (hunt_of h) chosen at) = subst (λ (os : List ℕ). IsImproved q c.args.picks.now.best c.walk-2.new.picks.best (IsChoiceIn (hunt_of h) os at)) pushed c.walk-2.ensures.improved in
     let second : IsImproved q c.walk-2.new.picks.best c.walk-3.new.picks.best (IsChoiceIn (hunt_of h) chosen at) = subst (λ (os : List ℕ). IsImproved q c.walk-2.new.picks.best c.walk-3.new.picks.best (IsChoiceIn (hunt_of h) os at)) same c.walk-3.ensures.improved in
-    improved_both q c.args.picks.now.best c.walk-2.new.picks.best c.walk-3.new.picks.best (IsChoiceWith (hunt_of h) chosen at) (IsChoiceIn (hunt_of h) chosen at) (IsChoiceIn (hunt_of h) chosen c.args.left) (step h chosen c.args.left c.if-left-eq0.false) first second
+    improved_both q c.args.picks.now.best c.walk-2.new.picks.best c.walk-3.new.picks.best (IsChoiceWith (hunt_of h) chosen at) (IsChoiceIn (hunt_of h) chosen at) (IsChoiceIn (hunt_of h) chosen c.args.left) (next_choice (hunt_of h) chosen c.args.left c.if-left-eq0.false) first second

@@ -6,6 +6,7 @@ use Rattle.std.proofs.lemmas.Bool.{OnTrue_from}
 use Rattle.std.proofs.lemmas.Int.{ints, unsigned_abs-mul}
 use Rattle.std.proofs.lemmas.Nat.{mul-le}
 use Rattle.pricing_laws.proofs.Numbers.{le_true}
+use Rattle.pricing_laws.proofs.Products.{few_small, product_back}
 use Rattle.pricing_laws.specs.Problems.{ExceedAtMost}
 use Rattle.pricing_laws.proofs.Problems.{exceed_weaker}
 use Rattle.pricing_laws.proofs.Worths.{set_bounded}
@@ -13,17 +14,6 @@ use Rattle.pricing_laws.specs.Searches.{IsOfSetIn}
 use Rattle.slab_price.specs.Tasks.{problem_of}
 use Rattle.slab_price.specs.Searches.{search_of}
 use Rattle.slab_price.proofs.search.Search.is_hopeless.Goals as goal
-
--- a few times a small number
-few_small : (left : ℕ) (top : ℤ) → left ≤ 3 → unsigned_abs top ≤ 2 ^ 94 → unsigned_abs (pos left *ℤ top) ≤ 3 * 2 ^ 94
-few_small left top few small = omega (arith, ints, unsigned_abs-mul (pos left) top, mul-le left (unsigned_abs top) 3 (2 ^ 94) few small)
-
--- the product as it was computed
-product_back : (left : ℕ) (top x : ℤ) → left ≤ 3 → unsigned_abs top ≤ 2 ^ 94 → x ≡ pos left → to_z w128 (of_z w128 (to_z w128 (of_z w128 x) *ℤ to_z w128 (of_z w128 top))) ≡ pos left *ℤ top
-product_back left top x few small e =
-    let a : to_z w128 (of_z w128 x) ≡ pos left = omega (arith, ints) in
-    let b : to_z w128 (of_z w128 top) ≡ top = omega (arith, ints) in
-    rw (a, b) (omega (arith, ints, few_small left top few small))
 
 -- the test as it was computed
 low : (worth product exact floor best : ℤ) → product ≡ exact → unsigned_abs exact ≤ 3 * 2 ^ 94 → unsigned_abs worth ≤ 2 ^ 100 → unsigned_abs floor ≤ 2 ^ 62 → FitsSigned w128 best
