@@ -1,5 +1,5 @@
 //! Numbers that go by keys.
-ghost use Rattle.std.specs.Prelude.{◌≤◌, vec_capacity};
+ghost use Rattle.std.specs.Prelude.{◌+◌, ◌≤◌, vec_capacity};
 ghost use Rattle.mill_model.specs.Mill.{most_colours, most_orders};
 
 use mill_model::{MOST_COLOURS, MOST_ORDERS};

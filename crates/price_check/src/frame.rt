@@ -1,5 +1,5 @@
 //! What stands through the test of a leaf.
-ghost use Rattle.std.specs.Prelude.{◌≡◌, ◌*◌, ◌≤◌, IfOk, length, vec_capacity};
+ghost use Rattle.std.specs.Prelude.{◌+◌, ◌≡◌, ◌*◌, ◌≤◌, IfOk, length, vec_capacity};
 ghost use Rattle.mill_model.specs.Mill.{most_colours, most_orders, most_weight};
 ghost use Rattle.pricing_laws.specs.Groupings.{HasRoom};
 

@@ -1,5 +1,5 @@
 //! Numbers linked to chains by their keys.
-ghost use Rattle.std.specs.Prelude.{◌≡◌, ◌<◌, ◌≤◌, ℕ, length, slice_index, vec_capacity};
+ghost use Rattle.std.specs.Prelude.{◌+◌, ◌≡◌, ◌<◌, ◌≤◌, ℕ, length, slice_index, vec_capacity};
 ghost use Rattle.mill_model.specs.Mill.{most_colours, most_orders};
 ghost use Rattle.std.proofs.Math.ListN.{replicate};
 ghost use Rattle.pricing_laws.specs.Chains.{AreChains, IsChainedFrom};

@@ -1,5 +1,5 @@
 //! Room for the test of a leaf.
-ghost use Rattle.std.specs.Prelude.{◌≤◌, IfOk, IfNone, IfSome, length};
+ghost use Rattle.std.specs.Prelude.{◌+◌, ◌≤◌, IfOk, IfNone, IfSome, length};
 ghost use Rattle.mill_model.specs.Mill.{most_orders, most_weight};
 ghost use Rattle.price_check.specs.Exceeding.{IsExceeding};
 ghost use Rattle.mill_model.specs.Prices.{NoneExceeds};
