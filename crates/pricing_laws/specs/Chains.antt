@@ -8,6 +8,11 @@ pub record IsNextOf (key_of : ℕ → ℕ) (numbers key from at : ℕ) : Type 0 
   pub passed : (i : ℕ) → from ≤ i → i < at → key_of i ≡ key → ⊥
   pub here : at < numbers → key_of at ≡ key
 
+-- for each key the first number, and for each number the next one of its key
+pub record Chains : Type 0 where
+  pub first : List ℕ
+  pub next : List ℕ
+
 -- for each key the first number from one on, and for each of these numbers the next one of its key
 pub record IsChainedFrom (key_of : ℕ → ℕ) (numbers low : ℕ) (first next : List ℕ) : Type 0 where
   pub size : length next ≡ numbers
@@ -15,6 +20,6 @@ pub record IsChainedFrom (key_of : ℕ → ℕ) (numbers low : ℕ) (first next 
   pub next_of : (i : ℕ) → low ≤ i → i < numbers → IsNextOf key_of numbers (key_of i) (i + 1) (slice_index_or next i 0)
 
 -- all of them, for so many keys
-pub record AreChains (key_of : ℕ → ℕ) (numbers count : ℕ) (first next : List ℕ) : Type 0 where
-  pub keys : length first ≡ count
-  pub chained : IsChainedFrom key_of numbers 0 first next
+pub record AreChains (key_of : ℕ → ℕ) (numbers count : ℕ) (c : Chains) : Type 0 where
+  pub keys : length c.first ≡ count
+  pub chained : IsChainedFrom key_of numbers 0 c.first c.next
