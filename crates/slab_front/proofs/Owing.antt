@@ -79,14 +79,6 @@ more_of_yard owes others files None m status o more is = more m is
 more_of_yard owes others files (Some name) m status o more is =
     more_of_file YardSource (yard_file (length m.orders)) (λ yard. owes (with_yard m yard)) (λ yard. others (with_yard m yard)) files name status o (λ yard. more (with_yard m yard)) is
 
-pub more_of_mill : (owes others : Mill → Owing) (files : Files) (words : MillWords) (status : ℕ) (o : Outcome)
-    → ((m : Mill) → owes m status o → others m status o) → OwesOfMill owes files words status o → OwesOfMill others files words status o
-more_of_mill owes others files words status o more is =
-    let from : Mill → Owing = λ x. owes (with_colours words.colours x) in
-    let to : Mill → Owing = λ x. others (with_colours words.colours x) in
-    more_of_file Orders order_file (OwesOfYard from files words.yard) (OwesOfYard to files words.yard) files words.orders status o
-    (λ m. more_of_yard from to files words.yard m status o (λ x. more (with_colours words.colours x))) is
-
 -- what is found passes the test
 found_here : {A : Type 0} (p : A → Bool) (y x : A) (others : Option A) (b : Bool) → p y ≡ b → (others ≡ Some x → p x ≡ true) → cond b (Some y) others ≡ Some x → p x ≡ true
 found_here p y x others true test later is = cc

@@ -89,56 +89,7 @@ nothing_said x y q =
     q ∙ ap (λ (s : List ℕ). record x { said = s }) (sym (append-nil x.said))
     ∙ ap (λ (l : List ℕ). record x { left = l; said = x.said ++ [] }) (sym (ap (λ (u : Told). u.left) q))
 
-pub file_missing : (name text : List ℕ) (a b : Option Told) → Steps a b Stays → Steps a b (λ x y. SaysOnly [] x y ⊎ BeginsToStore (Some (name, text)) x y)
-file_missing name text a b p = steps_weaker a b (λ x y q. inl (nothing_said x y q)) p
-
-pub stays_unread : (a b : Option Told) → Steps a b Stays → Steps a b (λ x y. y.left ≡ x.left)
-stays_unread a b p = steps_weaker a b (λ x y q. ap (λ (u : Told). u.left) q) p
-
 -- ---- ends
-
-pub said_all : (status : ℕ) (text : List ℕ) (a b : Option Told) → status ≢ 5 → Steps a b (Says text) → Finishes status (saying text) a b status
-said_all status text a b not p = record {
-  status = inl refl;
-  given = λ _. steps_weaker a b (gives_text text) p;
-  short = λ is. absurd (not is);
-  unread = steps_weaker a b (unread_text text) p;
-}
-
-pub said_some : (status : ℕ) (text : List ℕ) (a b : Option Told) → Steps a b (WithPrefix Says text) → Finishes status (saying text) a b 5
-said_some status text a b p = record {
-  status = inr refl;
-  given = λ not. absurd (not refl);
-  short = λ _. steps_weaker a b (λ x y q. inr (inr (begins_text text x y q))) p;
-  unread = steps_weaker a b (λ x y q. unread_text q.0 x y q.3) p;
-}
-
-pub stored_and_said : (status : ℕ) (name bytes text : List ℕ) (a b c : Option Told) → status ≢ 5
-    → Steps a b (Gives (storing name bytes)) → Steps a b IsUnread → Steps b c (Says text) → Finishes status (record { said = text; stored = Some (name, bytes) }) a c status
-stored_and_said status name bytes text a b c not p u q = record {
-  status = inl refl;
-  given = λ _. steps_join a b c (says_more (storing name bytes) text) p q;
-  short = λ is. absurd (not is);
-  unread = steps_join a b c (λ x y z r s. unread_text text y z s ∙ r) u q;
-}
-
-pub stored_and_begun : (status : ℕ) (name bytes text : List ℕ) (a b c : Option Told)
-    → Steps a b (Gives (storing name bytes)) → Steps a b IsUnread → Steps b c (WithPrefix Says text) → Finishes status (record { said = text; stored = Some (name, bytes) }) a c 5
-stored_and_begun status name bytes text a b c p u q = record {
-  status = inr refl;
-  given = λ not. absurd (not refl);
-  short = λ _. steps_join a b c (λ x y z r s. inr (inr (s.0, s.1, s.2, says_more (storing name bytes) s.0 x y z r s.3))) p q;
-  unread = steps_join a b c (λ x y z r s. unread_text s.0 y z s.3 ∙ r) u q;
-}
-
-pub not_stored : (status : ℕ) (name bytes text : List ℕ) (a b : Option Told)
-    → Steps a b (λ x y. SaysOnly [] x y ⊎ BeginsToStore (Some (name, bytes)) x y) → Steps a b IsUnread → Finishes status (record { said = text; stored = Some (name, bytes) }) a b 5
-not_stored status name bytes text a b p u = record {
-  status = inr refl;
-  given = λ not. absurd (not refl);
-  short = λ _. steps_weaker a b (λ x y q. elim q [ inl none ↦ inl none | inr begun ↦ inr (inl begun) ]) p;
-  unread = u;
-}
 
 -- ---- results
 
@@ -157,16 +108,3 @@ file_left (Ok v) name text a b c p all some = file_unread name text a b c p all
 file_left (Err e) name text a b c p all some = file_begun_unread name text a b c p some
 
 -- ---- reports
-
-pub same_report : (h p : List Point) (o x : ℕ) (b y : ℕ) (w v : Word) → h ≡ p → o ≡ x → b ≡ y → w ≡ v → report_text h o b w ≡ report_text p x y v
-same_report h p o x b y w v hp ox by wv =
-    ap (λ (l : List Point). report_text l o b w) hp ∙ ap (λ (n : ℕ). report_text p n b w) ox ∙ ap (λ (n : ℕ). report_text p x n w) by ∙ ap (λ (u : Word). report_text p x y u) wv
-
-pub same_summary : (m : Mill) (h p : List Point) (o x : ℕ) (b y : ℕ) (w v : Word) → h ≡ p → o ≡ x → b ≡ y → w ≡ v → summary_text m h o b w ≡ summary_text m p x y v
-same_summary m h p o x b y w v hp ox by wv =
-    ap (λ (l : List Point). summary_text m l o b w) hp ∙ ap (λ (n : ℕ). summary_text m p n b w) ox ∙ ap (λ (n : ℕ). summary_text m p x n w) by ∙ ap (λ (u : Word). summary_text m p x y u) wv
-
-pub never_5 : (w : Word) → status_with w ≢ 5
-never_5 Complete e = cc
-never_5 Budget e = cc
-never_5 NoPlan e = cc
