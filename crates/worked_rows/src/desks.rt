@@ -10,7 +10,7 @@ use std::alloc::{AllocError, Global};
 const PIECE: usize = 3;
 
 // What is said finds this room, and more where a file has more.
-const ROOM: usize = 1000;
+const ROOM: usize = 10000;
 
 /// The bytes of the files `orders`, `plan` and `yard`. The second may be a cut.
 #[derive(Clone, Copy)]

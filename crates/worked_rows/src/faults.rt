@@ -1,6 +1,6 @@
 // Each call of a desk fails in turn.
 use crate::desks::Files;
-use crate::row::{Row, failing_row, row};
+use crate::row::{Row, failing_row, run_row};
 use slab_desk::Act;
 use std::alloc::Global;
 use std::test::Fail;
@@ -24,14 +24,8 @@ fn a_run_ends_at_the_call_that_fails(rt: HostRuntime) -> Result<(), Fail> {
             plan: plan.as_bytes(),
             yard: yard.as_bytes(),
         };
-        let whole = row(rt.alloc(), words, files)?;
-        for act in [
-            Act::OpenFile,
-            Act::Read,
-            Act::Create,
-            Act::Write,
-            Act::Say,
-        ] {
+        let whole = run_row(rt.alloc(), words, files)?;
+        for act in [Act::OpenFile, Act::Read, Act::Create, Act::Write, Act::Say] {
             let failed = failures(rt.alloc(), words, files, act, &whole)?;
             assert!(rt; failed, "{words} {act:?}");
         }
@@ -85,7 +79,7 @@ fn what_is_left_of_a_fault(rt: HostRuntime) -> Result<(), Fail> {
         plan: b"",
         yard: b"",
     };
-    let absent = row(rt.alloc(), "solve none cert", files)?;
+    let absent = run_row(rt.alloc(), "solve none cert", files)?;
     assert_eq!(rt; absent.status, 5);
     assert!(rt; absent.stored.is_none());
     assert_eq!(rt; absent.said.len(), 0);

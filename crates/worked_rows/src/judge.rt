@@ -1,6 +1,6 @@
 // Plans that are judged.
 use crate::desks::Files;
-use crate::row::row;
+use crate::row::run_row;
 use std::test::Fail;
 
 const TWO: &str = "2 4 10 1 2 4 1 4 1";
@@ -54,14 +54,7 @@ fn judged() -> [Judged; 8] {
             0,
             "legal 0 1\n",
         ),
-        (
-            TWO,
-            "1 mew 10 1 1",
-            "",
-            "",
-            2,
-            "input plan word 2 kind\n",
-        ),
+        (TWO, "1 mew 10 1 1", "", "", 2, "input plan word 2 kind\n"),
     ]
 }
 
@@ -74,7 +67,7 @@ fn a_plan_is_judged(rt: HostRuntime) -> Result<(), Fail> {
             plan: plan.as_bytes(),
             yard: yard.as_bytes(),
         };
-        let row = row(rt.alloc(), words.as_str(), files)?;
+        let row = run_row(rt.alloc(), words.as_str(), files)?;
         assert_eq!(rt; row.said.as_slice(), said.as_bytes(), "{plan}");
         assert_eq!(rt; row.status, status, "{plan}");
     }

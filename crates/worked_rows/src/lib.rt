@@ -8,6 +8,8 @@ pub mod desks;
 mod faults;
 #[cfg(test)]
 mod judge;
+#[cfg(test)]
+mod many;
 pub mod row;
 #[cfg(test)]
 mod solve;

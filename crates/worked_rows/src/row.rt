@@ -17,7 +17,7 @@ pub struct Row {
 }
 
 /// The run of these words, parted by single spaces, over these files. The certificate is the file `cert`.
-pub fn row(alloc: Global, words: &str, files: Files<'_>) -> Result<Row, AllocError> {
+pub fn run_row(alloc: Global, words: &str, files: Files<'_>) -> Result<Row, AllocError> {
     let mut desk = desk_of(alloc, files.orders, files.plan, files.yard, Vec::new(alloc))?;
     ended(alloc, words, &mut desk)
 }

@@ -1,6 +1,6 @@
 // Mills that are solved, and mills that are made.
 use crate::desks::Files;
-use crate::row::{Row, row};
+use crate::row::{Row, run_row};
 use std::alloc::{AllocError, Global};
 use std::test::Fail;
 
@@ -20,7 +20,7 @@ fn solved(alloc: Global, orders: &str, yard: &str, options: &str) -> Result<Row,
         plan: b"",
         yard: yard.as_bytes(),
     };
-    row(alloc, words.as_str(), files)
+    run_row(alloc, words.as_str(), files)
 }
 
 // Order file, yard file, options, status, and what is said.
@@ -219,7 +219,7 @@ fn a_mill_is_made(rt: HostRuntime) -> Result<(), Fail> {
         yard: b"",
     };
     for (words, said) in made_mills() {
-        let row = row(rt.alloc(), words, files)?;
+        let row = run_row(rt.alloc(), words, files)?;
         assert_eq!(rt; row.said.as_slice(), said.as_bytes());
         assert_eq!(rt; row.status, 0);
         assert!(rt; row.stored.is_none());

@@ -1,6 +1,6 @@
 // Words and files that are refused.
 use crate::desks::Files;
-use crate::row::row;
+use crate::row::run_row;
 use std::test::Fail;
 
 // The words, and what is said of them.
@@ -23,7 +23,7 @@ fn words_that_can_not_stand_are_named(rt: HostRuntime) -> Result<(), Fail> {
         yard: b"",
     };
     for (words, said) in words() {
-        let row = row(rt.alloc(), words, files)?;
+        let row = run_row(rt.alloc(), words, files)?;
         assert_eq!(rt; row.said.as_slice(), said.as_bytes(), "{words}");
         assert_eq!(rt; row.status, 1, "{words}");
     }
@@ -41,12 +41,7 @@ fn refused() -> [Refused; 10] {
         ("1 10 1 1 5 2", "", solve, "input orders word 6 colour\n"),
         ("1 10 1 1 5", "", solve, "input orders word 6 missing\n"),
         ("1 10 1 1 5 1 7", "", solve, "input orders word 7 extra\n"),
-        (
-            "1 10001 1 1 5 1",
-            "",
-            solve,
-            "input orders word 2 range\n",
-        ),
+        ("1 10001 1 1 5 1", "", solve, "input orders word 2 range\n"),
         (
             "2 4 10 1 2 4 1 4 1",
             "1 8 1 3 1",
@@ -94,7 +89,7 @@ fn a_file_has_a_first_fault(rt: HostRuntime) -> Result<(), Fail> {
             plan: b"0",
             yard: yard.as_bytes(),
         };
-        let row = row(rt.alloc(), words, files)?;
+        let row = run_row(rt.alloc(), words, files)?;
         assert_eq!(rt; row.said.as_slice(), said.as_bytes(), "{words}");
         assert_eq!(rt; row.status, 2, "{words}");
         assert_eq!(rt; row.faults, 0, "{words}");
@@ -116,7 +111,7 @@ fn a_file_may_be_too_long(rt: HostRuntime) -> Result<(), Fail> {
             plan: b"",
             yard: b"",
         };
-        let row = row(alloc, "solve orders cert", files)?;
+        let row = run_row(alloc, "solve orders cert", files)?;
         assert_eq!(rt; row.said.as_slice(), said.as_bytes());
         assert_eq!(rt; row.status, 2);
     }
