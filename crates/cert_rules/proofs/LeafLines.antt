@@ -11,9 +11,8 @@ use Rattle.mill_model.specs.Prices.{Prices, IsPrice, ArePrices, Refutes}
 use Rattle.cert_view.specs.declared.line.Line.TheVariants as lines
 use Rattle.cert_view.specs.Number.{IsWithin}
 use Rattle.cert_view.specs.Text.{IsLine}
-use Rattle.cert_text.specs.Lines.{leaf_line}
 use Rattle.cert_rules.specs.Rules.{AllKept}
-use Rattle.cert_rules.specs.Leaves.{prices_of, HasCount, HasSigns, HasLimits, IsWorth, NoneExceeds, leaf_rules}
+use Rattle.cert_rules.specs.Leaves.{prices_of, HasSigns, HasLimits, IsWorth, NoneExceeds, leaf_rules}
 
 abbrev pub numbers_of : Prices → List ℤ
 numbers_of p = p.lambda ∷ p.mu ∷ (p.pi ++ p.sigma)

@@ -1,5 +1,5 @@
 -- Unfinished trees and their lines.
-use Rattle.std.proofs.Common.{◌≡◌, ℕ, suc, ◌<◌, true, List, [], ◌∷◌, ◌++◌, map, length, Option, refl, sym, ap, ap₂, ◌∙◌, subst, ◌⊎◌, inl, inr, arith, append-nil}
+use Rattle.std.proofs.Common.{◌≡◌, suc, true, List, [], ◌∷◌, ◌++◌, map, length, Option, refl, sym, ap, ap₂, ◌∙◌, subst, ◌⊎◌, inl, inr, arith, append-nil}
 use Rattle.std.proofs.lemmas.List.{map-append}
 use Rattle.mill_model.specs.declared.ask.Ask.{Ask}
 use Rattle.mill_model.specs.declared.ask.Ask.TheVariants.{Pair, Put}
@@ -7,7 +7,7 @@ use Rattle.mill_model.specs.declared.sums.Sums.{Sums}
 use Rattle.mill_model.specs.Mill.{Mill}
 use Rattle.mill_model.specs.Decisions.{Decision, IsAsk}
 use Rattle.mill_model.specs.Paths.{next_branch}
-use Rattle.mill_model.specs.Trees.{Unmarked, Tree, EverySplit, IsFresh, IsOpenTree, outline}
+use Rattle.mill_model.specs.Trees.{Unmarked, EverySplit, IsFresh, IsOpenTree, outline}
 use Rattle.mill_model.specs.Trees.Tree.{End, Split}
 use Rattle.cert_view.specs.declared.line.Line.{Line}
 use Rattle.cert_view.specs.declared.line.Line.TheVariants as lines

@@ -1,5 +1,5 @@
 -- Lines in a plan.
-use Rattle.std.proofs.Common.{◌≡◌, ℕ, ℤ, pos, List, [], ◌∷◌, ◌++◌, map, take, length, get_or, refl, sym, ap, ap₂, ◌∙◌, subst, arith, append_assoc, append-nil, length-append, inl, inr}
+use Rattle.std.proofs.Common.{◌≡◌, ℕ, ℤ, List, [], ◌∷◌, ◌++◌, map, take, length, get_or, refl, sym, ap, ap₂, ◌∙◌, subst, arith, append_assoc, append-nil, length-append, inl, inr}
 use Rattle.std.specs.List.{AllByRecursion}
 use Rattle.cert_text.specs.Texts.{IsReadable}
 use Rattle.std.proofs.Math.Seq.{take-append_seam}
@@ -15,7 +15,7 @@ use Rattle.mill_model.specs.Columns.{Column}
 use Rattle.mill_model.specs.Plans.{Plan, IsLegal, IsInOrder, sums_of}
 use Rattle.cert_view.specs.declared.line.Line.{Line}
 use Rattle.cert_view.specs.declared.line.Line.TheVariants as lines
-use Rattle.cert_text.specs.Lines.{number, slab_line, slab_line_on, columns_of}
+use Rattle.cert_text.specs.Lines.{slab_line, slab_line_on, columns_of}
 use Rattle.cert_rules.specs.Rules.{AllKept}
 use Rattle.cert_rules.specs.States.{Wanted, State, Goal}
 use Rattle.cert_rules.specs.States.Owner.{OfPoint}

@@ -1,9 +1,8 @@
 -- Each good line leaves fewer lines to come.
-use Rattle.std.proofs.Common.{◌≡◌, ℕ, zero, suc, ◌+◌, ◌-◌, ◌*◌, ◌^◌, ◌<◌, ◌≤◌, ℤ, pos, negsuc, unsigned_abs, Bool, true, false, ◌&&◌, ◌||◌, cond, eqb, List, [], ◌∷◌, ◌++◌, map, length, get_or, Some, Ok, refl, sym, ap, ap₂, ◌∙◌, subst, arith, inl, inr, length-append}
-use Rattle.std.specs.List.{list_any, AllByRecursion, sum_by}
+use Rattle.std.proofs.Common.{◌≡◌, ℕ, zero, suc, ◌+◌, ◌-◌, ◌*◌, ◌^◌, ◌<◌, ◌≤◌, ℤ, pos, negsuc, unsigned_abs, Bool, true, false, ◌||◌, cond, eqb, List, [], ◌∷◌, ◌++◌, map, length, get_or, Some, Ok, refl, sym, ap, ap₂, subst, arith, inl, inr, length-append}
+use Rattle.std.specs.List.{list_any}
 use Rattle.std.proofs.lemmas.Int.{ints}
-use Rattle.std.proofs.lemmas.Bool.{cases_eq, cases_Bool, eqb-true, eq-eqb, and_parts, and_from, false_from_ne_true, both_ways}
-use Rattle.std.proofs.lemmas.List.{length-map}
+use Rattle.std.proofs.lemmas.Bool.{cases_eq, eqb-true, eq-eqb, and_parts, and_from, false_from_ne_true, both_ways}
 use Rattle.std.proofs.lemmas.List.Folds.{list_any-append}
 use Rattle.std.proofs.lemmas.List.Sums.{sum_by-cons}
 use Rattle.std.proofs.lemmas.List.Elements.{recursion_from_All}
@@ -13,7 +12,7 @@ use Rattle.mill_model.specs.declared.sums.Sums.{Sums}
 use Rattle.mill_model.specs.declared.version.Version.{Version}
 use Rattle.mill_model.specs.declared.version.Version.TheVariants.{One, Two}
 use Rattle.mill_model.specs.Mill.{Mill}
-use Rattle.mill_model.specs.Columns.{Column, Rises, has}
+use Rattle.mill_model.specs.Columns.{Column, has}
 use Rattle.mill_model.specs.Decisions.{Decision, IsAsk}
 use Rattle.mill_model.specs.Paths.{next_branch}
 use Rattle.mill_model.specs.Shares.{Share}
@@ -29,20 +28,19 @@ use Rattle.cert_view.specs.Text.{line_text, IsLine}
 use Rattle.cert_view.specs.Laws.{BeginsWith}
 use Rattle.cert_view.proofs.Feeds.{read_is_text}
 use Rattle.cert_view.proofs.Buffers.{whole_is_text}
-use Rattle.cert_text.specs.Texts.{IsReadable}
 use Rattle.cert_rules.specs.Rules.{Rule, AllKept}
-use Rattle.cert_rules.specs.Numbers.{index, number_at}
+use Rattle.cert_rules.specs.Numbers.{number_at}
 use Rattle.cert_rules.specs.States.{Wanted, Owner, Goal, Stage, State, latest, tree_limits, after_owner, after_tree, branch_or}
 use Rattle.cert_rules.specs.States.Wanted.{All, Cuts}
 use Rattle.cert_rules.specs.States.Owner.{OfPoint, OfRest}
 use Rattle.cert_rules.specs.States.Outcome.{Unfinished}
 use Rattle.cert_rules.specs.States.Stage.{Begins, Marked, InSpread}
 use Rattle.cert_rules.specs.States.State.{Begin, BetweenPoints, InPlan, InTree, InOpenTree, Ended}
-use Rattle.cert_rules.specs.Slabs.{sums_of_line, AreSums, new_slab, old_slab, new_rules, old_rules, IsPlaced, ArePlaceable, plan_rules}
+use Rattle.cert_rules.specs.Slabs.{sums_of_line, AreSums, new_slab, old_slab, plan_rules}
 use Rattle.cert_rules.specs.Spreads.{column_of, multiplier_of, covered, share_of_new, share_of_old, cover_rules}
 use Rattle.cert_rules.specs.Turns.{Turn, rules_of, next_of, with_rules, turn_to_ask, turn_at_start, turn_after_shares, line_rules, line_next}
 use Rattle.cert_rules.specs.Reading.{HasEnded}
-use Rattle.cert_rules.specs.Room.{sum_below, same_ask, is_asked, is_left, asks_left, node_lines, below_node, tree_lines, branch_lines, all_covered, stage_lines, is_unplaced, unplaced, points_left, point_lines, rest_lines, owner_lines, lines_left, room, IsFailed, LinesFall, RoomFalls}
+use Rattle.cert_rules.specs.Room.{sum_below, same_ask, is_asked, is_left, asks_left, node_lines, below_node, tree_lines, branch_lines, all_covered, stage_lines, is_unplaced, unplaced, points_left, point_lines, owner_lines, lines_left, room, IsFailed, LinesFall, RoomFalls}
 use Rattle.cert_rules.specs.Stands.Progress.{Running, Failed}
 use Rattle.mill_model.specs.Shares.{IsMultiplier}
 use Rattle.cert_rules.proofs.Steps.{with_from}

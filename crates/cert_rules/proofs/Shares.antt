@@ -16,14 +16,14 @@ use Rattle.mill_model.specs.declared.ask.Ask.{Ask}
 use Rattle.mill_model.specs.declared.ask.Ask.TheVariants.{Pair, Put}
 use Rattle.mill_model.specs.Decisions.{Decision, IsAsk, column_agrees}
 use Rattle.mill_model.specs.Covers.{Part, times, IsCover}
-use Rattle.mill_model.specs.Shares.{Share, Shown, IsMultiplier, IsShown, part_of}
+use Rattle.mill_model.specs.Shares.{Share, IsMultiplier, IsShown, part_of}
 use Rattle.cert_view.specs.declared.line.Line.TheVariants as lines
 use Rattle.cert_view.specs.Number.{IsWithin}
 use Rattle.cert_view.specs.Text.{IsLine}
-use Rattle.cert_text.specs.Lines.{number, share_line, share_line_on}
+use Rattle.cert_text.specs.Lines.{number, share_line}
 use Rattle.cert_rules.specs.Rules.{AllKept}
 use Rattle.cert_rules.specs.Numbers.{index, natural, Names}
-use Rattle.cert_rules.specs.Spreads.{column_of, multiplier_of, covered, used, lost, opened, OrdersWithin, SlabsWithin, AreNamed, share_of_new, share_of_old, new_share_rules, old_share_rules, CoversAll, LosesFew, OpensFew}
+use Rattle.cert_rules.specs.Spreads.{column_of, multiplier_of, covered, used, lost, opened, OrdersWithin, SlabsWithin, share_of_new, share_of_old, new_share_rules, old_share_rules, CoversAll, LosesFew, OpensFew}
 use Rattle.cert_rules.proofs.Asks.{number_index, names_number, index_number, index_numbers, numbers_named}
 
 -- a share on a surplus slab keeps the slabs within d; one on a new slab uses none

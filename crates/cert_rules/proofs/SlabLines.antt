@@ -1,16 +1,13 @@
 -- The lines of slabs.
 use Rattle.std.proofs.Common.{◌≡◌, ℕ, ◌+◌, ◌<◌, ◌≤◌, ℤ, pos, Bool, true, false, ◌||◌, eqb, inl, inr, List, [], ◌∷◌, map, length, get_or, refl, sym, ap, ap₂, ◌∙◌, subst, arith}
 use Rattle.std.specs.List.{AllByRecursion}
-use Rattle.std.proofs.lemmas.Int.{ints}
 use Rattle.std.proofs.lemmas.List.{length-map}
-use Rattle.std.proofs.lemmas.List.Elements.{All-from_recursion, All-get_or}
 use Rattle.std.proofs.lemmas.Bool.{cases_Bool, eqb-true, eq-eqb}
 use Rattle.mill_model.specs.declared.kind.Kind.TheVariants.{New, Old}
-use Rattle.mill_model.specs.Mill.{Mill, IsInLimits, IsBetween}
+use Rattle.mill_model.specs.Mill.{Mill}
 use Rattle.mill_model.specs.Columns.{Column, Rises, has, load, colours_of, size_of, has_barred}
 use Rattle.mill_model.specs.Judging.{is_among}
 use Rattle.cert_view.specs.declared.line.Line.TheVariants as lines
-use Rattle.cert_view.specs.Number.{IsWithin}
 use Rattle.cert_view.specs.Text.{IsLine}
 use Rattle.cert_text.specs.Lines.{number, slab_line}
 use Rattle.cert_rules.specs.Rules.{AllKept}

@@ -1,5 +1,5 @@
 -- What a reader stands for.
-use Rattle.std.proofs.Common.{◌≡◌, ℕ, ◌+◌, ◌<◌, ◌≤◌, ◌-◌, ◌^◌, List, [], ◌∷◌, ◌++◌, length, take, Option, Some, None, Result, Ok, Err, refl, sym, ap, ap₂, ◌∙◌, subst, arith, inl, inr, append_assoc, append-nil, length-append, min}
+use Rattle.std.proofs.Common.{◌≡◌, ℕ, ◌+◌, ◌<◌, ◌-◌, ◌^◌, List, [], ◌∷◌, ◌++◌, length, take, Option, Some, None, Result, Ok, Err, refl, sym, ap, ◌∙◌, subst, arith, inl, inr, append_assoc, append-nil, length-append, min}
 use Rattle.std.specs.List.{position_or_len, AllByRecursion}
 use Rattle.std.proofs.Math.Seq.{take-append_seam}
 use Rattle.std.proofs.lemmas.List.Concat.{flat_map-append}
@@ -21,9 +21,9 @@ use Rattle.cert_rules.specs.States.{Wanted, State}
 use Rattle.cert_rules.specs.States.State.{Begin}
 use Rattle.cert_rules.specs.Turns.{line_rules, line_next, after, AreKept}
 use Rattle.cert_rules.specs.Reading.{HasEnded, Reads, IsBadLine, IsBadNext, IsFirstBad, number_after}
-use Rattle.cert_rules.specs.Stands.{BeginsBad, IsRefused, HasFailed, IsRunning, StandsFor, NewStandsForNothing, PiecesAreTaken, EndsAreRight, FailuresStay, RunningIsNoFailure}
+use Rattle.cert_rules.specs.Stands.{IsRefused, HasFailed, IsRunning, StandsFor, NewStandsForNothing, PiecesAreTaken, EndsAreRight, FailuresStay, RunningIsNoFailure}
 use Rattle.cert_rules.specs.Stands.Progress.{Running, Failed}
-use Rattle.cert_rules.proofs.FirstBad.{Good, first_read, same_line, none_after_end, good_not_bad}
+use Rattle.cert_rules.proofs.FirstBad.{Good, first_read, same_line, good_not_bad}
 
 nothing_read : next_line [] ≡ None
 unfolding next_line

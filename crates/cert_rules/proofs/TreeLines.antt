@@ -1,5 +1,5 @@
 -- Lines in a finished tree.
-use Rattle.std.proofs.Common.{◌≡◌, ℕ, suc, ◌<◌, ℤ, unsigned_abs, true, List, [], ◌∷◌, ◌++◌, map, length, refl, sym, ap, ap₂, ◌∙◌, subst, ◌⊎◌, inl, inr, arith, append_assoc, append-nil}
+use Rattle.std.proofs.Common.{◌≡◌, ℕ, ◌<◌, ℤ, unsigned_abs, true, List, [], ◌∷◌, ◌++◌, map, length, refl, sym, ap, ap₂, ◌∙◌, subst, ◌⊎◌, inl, inr, arith, append_assoc, append-nil}
 use Rattle.mill_model.specs.declared.ask.Ask.{Ask}
 use Rattle.mill_model.specs.declared.ask.Ask.TheVariants.{Pair, Put}
 use Rattle.mill_model.specs.declared.kind.Kind.{Kind}
@@ -13,18 +13,17 @@ use Rattle.mill_model.specs.Mill.{Mill}
 use Rattle.mill_model.specs.Decisions.{Decision, IsAsk}
 use Rattle.mill_model.specs.Paths.{next_branch}
 use Rattle.mill_model.specs.Prices.{Prices, Refutes}
-use Rattle.mill_model.specs.Shares.{Share, Shown, IsMultiplier, IsShown}
+use Rattle.mill_model.specs.Shares.{Share, IsMultiplier, IsShown}
 use Rattle.mill_model.specs.Trees.{IsFresh}
 use Rattle.mill_model.specs.Marks.{IsRight}
 use Rattle.cert_view.specs.declared.line.Line.{Line}
 use Rattle.cert_view.specs.declared.line.Line.TheVariants as lines
-use Rattle.cert_text.specs.Lines.{number, ask_line, leaf_line, share_line, share_line_on, mark_lines}
+use Rattle.cert_text.specs.Lines.{ask_line, leaf_line, share_line, share_line_on, mark_lines}
 use Rattle.cert_view.specs.Number.{IsWithin}
 use Rattle.cert_view.specs.Text.{IsLine}
 use Rattle.std.proofs.lemmas.List.Elements.{recursion_from_All}
 use Rattle.cert_rules.specs.Leaves.{prices_of, leaf_rules}
 use Rattle.cert_rules.specs.Rules.{Rule, AllKept}
-use Rattle.cert_rules.specs.Numbers.{number_at}
 use Rattle.cert_rules.specs.States.{Wanted, Owner, Goal, State, tree_limits, after_tree, branch_or}
 use Rattle.cert_rules.specs.States.Stage.{Begins, Marked, InSpread}
 use Rattle.cert_rules.specs.States.State.{InTree}

@@ -1,5 +1,5 @@
 -- Finished trees and their lines.
-use Rattle.std.proofs.Common.{◌≡◌, ℕ, suc, ◌<◌, List, [], ◌∷◌, ◌++◌, length, refl, sym, ap, ap₂, ◌∙◌, subst, arith}
+use Rattle.std.proofs.Common.{◌≡◌, suc, List, [], ◌∷◌, ◌++◌, length, refl, sym, ap, ap₂, ◌∙◌, subst, arith}
 use Rattle.std.specs.List.{AllByRecursion}
 use Rattle.mill_model.specs.declared.mark.Mark.{Mark}
 use Rattle.mill_model.specs.declared.mark.Mark.TheVariants as marks
@@ -11,16 +11,16 @@ use Rattle.mill_model.specs.Decisions.{Decision}
 use Rattle.mill_model.specs.Prices.{Prices}
 use Rattle.mill_model.specs.Trees.{Tree, EverySplit, preorder, marks_of}
 use Rattle.mill_model.specs.Trees.Tree.{End, Split}
-use Rattle.mill_model.specs.Marks.{MarkedSteps, HasRightMarks, IsRight, IsMarkedRefutation, AreAllPlain}
+use Rattle.mill_model.specs.Marks.{MarkedSteps, HasRightMarks, IsRight, IsMarkedRefutation}
 use Rattle.cert_view.specs.declared.line.Line.{Line}
 use Rattle.cert_text.specs.Certificates.{AreMarksOf}
 use Rattle.cert_text.specs.Lines.{ask_line, leaf_line, mark_lines, marked_lines, tree_lines}
 use Rattle.cert_text.proofs.Trees.{tree_is}
-use Rattle.cert_rules.specs.States.{Wanted, Owner, Goal, State, tree_limits, after_tree}
+use Rattle.cert_rules.specs.States.{Wanted, Owner, State, tree_limits, after_tree}
 use Rattle.cert_rules.specs.Laws.{Reaches}
 use Rattle.cert_rules.proofs.Steps.{Comes}
 use Rattle.cert_rules.proofs.Walks.{lines_of, TreeThen, ToCome, tree_from, tree_goes_on}
-use Rattle.cert_rules.proofs.TreeLines.{goal, at, HoldsAt, MayMark, RightAt, tree_begins, leaf_goes_on, ask_goes_on}
+use Rattle.cert_rules.proofs.TreeLines.{goal, at, HoldsAt, RightAt, tree_begins, leaf_goes_on, ask_goes_on}
 
 all_append : {X : Type 0} (P : X → Type 0) (xs ys : List X) → AllByRecursion P xs → AllByRecursion P ys → AllByRecursion P (xs ++ ys)
 all_append P [] ys h k = k

@@ -1,28 +1,25 @@
 -- Verdicts, and what they mean.
-use Rattle.std.proofs.Common.{◌≡◌, ℕ, ◌<◌, List, [], ◌∷◌, ◌++◌, map, length, reverse, Option, Some, None, refl, sym, ap, ap₂, ◌∙◌, subst, arith, append-nil, ◌⊎◌, inl, inr}
+use Rattle.std.proofs.Common.{◌≡◌, ℕ, ◌<◌, List, [], ◌∷◌, length, reverse, Option, Some, None, refl, sym, ap, ap₂, ◌∙◌, subst, arith, append-nil, ◌⊎◌, inl, inr}
 use Rattle.std.proofs.lemmas.List.{reverse-reverse}
 use Rattle.mill_model.specs.declared.sums.Sums.{Sums}
 use Rattle.mill_model.specs.Mill.{Mill, IsInLimits}
 use Rattle.mill_model.specs.Plans.{IsAttained}
-use Rattle.mill_model.specs.Fronts.{Point, IsGoodPoint, IsGoodFrom, IsUndominated, IsFront, sums_list}
+use Rattle.mill_model.specs.Fronts.{Point, IsGoodPoint, IsGoodFrom, IsFront, sums_list}
 use Rattle.mill_model.proofs.Gap.{head_law}
-use Rattle.cert_view.specs.declared.line.Line.{Line}
-use Rattle.cert_text.specs.Certificates.{Ending, Certificate, IsGood, ShowsFront, ShowsNoPlan, ShowsCut, IsWhole, IsCut}
+use Rattle.cert_text.specs.Certificates.{Ending, Certificate, IsGood, IsWhole, IsCut}
 use Rattle.cert_text.specs.Certificates.Ending.{Whole, Cut}
-use Rattle.cert_text.specs.Lines.{certificate_lines}
 use Rattle.cert_text.specs.Texts.{Spells, lines_text}
 use Rattle.cert_text.proofs.Texts.{one_certificate}
 use Rattle.cert_text.proofs.Shown.{each_shows_one, what_is_shown_holds}
 use Rattle.cert_rules.specs.declared.why.Why.{Why}
-use Rattle.cert_rules.specs.States.{Outcome, State}
-use Rattle.cert_rules.specs.States.Outcome.{Proved, Unfinished}
+use Rattle.cert_rules.specs.States.{Outcome}
 use Rattle.cert_rules.specs.States.Wanted.{All}
 use Rattle.cert_rules.specs.States.State.{Begin, Ended}
 use Rattle.cert_rules.specs.Turns.{after}
-use Rattle.cert_rules.specs.Reading.{IsAccepted, IsFirstBad}
+use Rattle.cert_rules.specs.Reading.{IsFirstBad}
 use Rattle.cert_rules.specs.Verdicts.{Verdict, Shows, IsVerdict, BeginTheFront, verdict_of}
 use Rattle.cert_rules.specs.Verdicts.Verdict.{Front, NoPlan, CutOff, Bad}
-use Rattle.cert_rules.specs.Laws.{IsWanted, outcome_of, EndsAreVerdicts, OneVerdict, VerdictsHold}
+use Rattle.cert_rules.specs.Laws.{outcome_of, EndsAreVerdicts, OneVerdict, VerdictsHold}
 use Rattle.cert_rules.proofs.Wholes.{lines_from, accepted_exactly, ends_have_the_points}
 use Rattle.cert_rules.proofs.FirstBad.{one_first_bad_line}
 

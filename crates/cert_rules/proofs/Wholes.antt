@@ -1,5 +1,5 @@
 -- Whole texts: points, and how they end.
-use Rattle.std.proofs.Common.{◌≡◌, ℕ, zero, suc, ◌<◌, ◌≤◌, List, [], ◌∷◌, ◌++◌, map, length, reverse, Option, Some, None, refl, sym, ap, ap₂, ◌∙◌, subst, arith, append_assoc, append-nil, length-append}
+use Rattle.std.proofs.Common.{◌≡◌, ℕ, zero, suc, ◌<◌, ◌≤◌, List, [], ◌∷◌, ◌++◌, map, length, reverse, Option, None, refl, sym, ap, ap₂, ◌∙◌, subst, arith, append_assoc, append-nil, length-append}
 use Rattle.std.specs.List.{AllByRecursion, flat_map}
 use Rattle.std.proofs.lemmas.List.{reverse-append}
 use Rattle.mill_model.specs.declared.ask.Ask.{Ask}
@@ -12,21 +12,21 @@ use Rattle.mill_model.specs.Marks.{MarkedSteps, IsMarkedRefutation}
 use Rattle.mill_model.specs.Fronts.{Point, IsGoodPoint, IsGoodFrom, below, count_before, last_sums, sums_list}
 use Rattle.cert_view.specs.declared.line.Line.{Line}
 use Rattle.cert_view.specs.declared.line.Line.TheVariants as lines
-use Rattle.cert_text.specs.Certificates.{Ending, Certificate, IsGood, IsGoodEnded, AreMarksOf, last_tree, finished_trees}
+use Rattle.cert_text.specs.Certificates.{Ending, Certificate, IsGood, IsGoodEnded, AreMarksOf, last_tree}
 use Rattle.cert_text.specs.Certificates.Ending.{Whole, Cut}
 use Rattle.cert_text.specs.Lines.{header_line, sums_line, slab_line, columns_of, tree_lines, outline_line, point_lines, ending_lines, certificate_lines}
-use Rattle.cert_text.specs.Texts.{lines_text, IsReadable}
+use Rattle.cert_text.specs.Texts.{lines_text}
 use Rattle.cert_text.proofs.Readable.{good_lines_are_read}
 use Rattle.cert_rules.specs.States.{Wanted, State, Outcome, latest}
 use Rattle.cert_rules.specs.States.Wanted.{All, Cuts}
 use Rattle.cert_rules.specs.States.Owner.{OfPoint, OfRest}
-use Rattle.cert_rules.specs.States.Outcome.{Proved, Unfinished}
+use Rattle.cert_rules.specs.States.Outcome.{Proved}
 use Rattle.cert_rules.specs.States.Stage.{Begins}
 use Rattle.cert_rules.specs.States.State.{Begin, BetweenPoints, InPlan, InTree, InOpenTree, Ended}
 use Rattle.cert_rules.specs.Reading.{HasEnded}
 use Rattle.cert_rules.specs.Turns.{after}
 use Rattle.cert_rules.specs.Slabs.{sums_of_line}
-use Rattle.cert_rules.specs.Laws.{Reaches, Completes, MayEnd, IsWanted, LinesAreRead, AcceptedExactly, EndsHaveThePoints, outcome_of}
+use Rattle.cert_rules.specs.Laws.{Reaches, MayEnd, IsWanted, LinesAreRead, AcceptedExactly, EndsHaveThePoints, outcome_of}
 use Rattle.cert_rules.proofs.Steps.{Comes, on}
 use Rattle.cert_rules.proofs.Trees.{BeginsWithTree, tree_read, tree_completes}
 use Rattle.cert_rules.proofs.OpenLines.{IsOpenTreeText, open_tree_read, open_tree_completes}

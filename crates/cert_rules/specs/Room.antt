@@ -8,7 +8,7 @@ use Rattle.mill_model.specs.Mill.{Mill}
 use Rattle.mill_model.specs.Columns.{Column, has}
 use Rattle.mill_model.specs.Decisions.{Decision}
 use Rattle.mill_model.specs.Shares.{Share}
-use Rattle.cert_rules.specs.States.{Wanted, Owner, Goal, Stage, State}
+use Rattle.cert_rules.specs.States.{Wanted, Owner, Stage, State}
 use Rattle.cert_rules.specs.States.Owner.{OfPoint, OfRest}
 use Rattle.cert_rules.specs.States.Stage.{Begins, Marked, InSpread}
 use Rattle.cert_rules.specs.States.State.{Begin, BetweenPoints, InPlan, InTree, InOpenTree, Ended}

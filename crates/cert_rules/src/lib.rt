@@ -8,5 +8,8 @@
 mod laws;
 mod why;
 
-pub use laws::{accepted_exactly, ends_are_verdicts, ends_have_the_points, failures_are_exact, lines_are_read, one_first_bad_line, one_reading, one_verdict, readers_stand, reading_ends, verdicts_hold};
+pub use laws::{
+    accepted_exactly, ends_are_verdicts, ends_have_the_points, failures_are_exact, lines_are_read,
+    one_first_bad_line, one_reading, one_verdict, readers_stand, reading_ends, verdicts_hold,
+};
 pub use why::Why;

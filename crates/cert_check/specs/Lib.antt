@@ -1,0 +1,5 @@
+pub mod Whys
+pub mod Verdicts
+pub mod Kept
+pub mod Readings
+pub mod Held

@@ -1,0 +1,112 @@
+//! Lines of a tree against the path: the code that the line machine calls there.
+ghost use Rattle.std.specs.Prelude.{◌≡◌, ◌≤◌, ◌∷◌, true, None, Ok, Err, IfErr, IfOk, OnOk, IfSome, IfNone, length};
+ghost use Rattle.cert_rules.specs.Rules.{AllKept, FirstBroken};
+ghost use Rattle.cert_rules.specs.Questions.{NamesPair, NamesPut, pair_of, put_of, ask_rules};
+ghost use Rattle.cert_rules.specs.Leaves.{leaf_rules};
+ghost use Rattle.cert_check.specs.Whys.{leaf_why};
+
+use cert_rules::Why;
+use cert_view::Nums;
+use mill_model::{Ask, Limits, Mill};
+use price_check::{Bad, Path};
+
+// The question that the numbers of a `pair` line name, if they name one.
+fn named_pair(orders: usize, numbers: &Nums<'_>) -> Option<Ask>
+    requires few { orders ≤ 250 }
+    requires count { length numbers.now ≡ 2 }
+    ensures named { IfSome result (λ ask. NamesPair orders numbers.now × (ask ≡ pair_of numbers.now)) }
+    ensures unnamed { IfNone result (NamesPair orders numbers.now → ⊥) }
+{
+    let i = numbers.get(0);
+    let j = numbers.get(1);
+    if 1 <= i && i < j && j <= orders as i64 {
+        Some(Ask::Pair((i - 1) as u16, (j - 1) as u16))
+    } else {
+        None
+    }
+}
+
+/// Takes a `pair` line in a tree: the path goes down to its answer yes, or the line breaks a rule.
+pub(crate) fn pair_line(mill: &Mill, path: &mut Path, numbers: &Nums<'_>) -> Result<(), Why>
+    requires count { length numbers.now ≡ 2 }
+    requires orders { path.old.orders ≡ length mill.now.orders }
+    requires slabs { path.old.slabs ≡ length mill.now.yard }
+    ensures good { OnOk result (AllKept (ask_rules (NamesPair (length mill.now.orders) numbers.now) path.old.decisions (pair_of numbers.now))
+        × (path.new ≡ record path.old { decisions = (pair_of numbers.now, true) ∷ path.old.decisions; bad = None })) }
+    ensures bad { IfErr result (FirstBroken (ask_rules (NamesPair (length mill.now.orders) numbers.now) path.old.decisions (pair_of numbers.now))) }
+{
+    let Some(ask) = named_pair(mill.orders().len(), numbers) else {
+        return Err(Why::Ask);
+    };
+    if !path.push(ask) {
+        return Err(Why::Repeat);
+    }
+    Ok(())
+}
+
+// The question that the numbers of a `put` line name, if they name one.
+fn named_put(orders: usize, slabs: usize, numbers: &Nums<'_>) -> Option<Ask>
+    requires few { orders ≤ 250 }
+    requires fewer { slabs ≤ 40 }
+    requires count { length numbers.now ≡ 2 }
+    ensures named { IfSome result (λ ask. NamesPut orders slabs numbers.now × (ask ≡ put_of numbers.now)) }
+    ensures unnamed { IfNone result (NamesPut orders slabs numbers.now → ⊥) }
+{
+    let o = numbers.get(0);
+    let s = numbers.get(1);
+    if 1 <= o && o <= orders as i64 && 1 <= s && s <= slabs as i64 {
+        Some(Ask::Put((o - 1) as u16, (s - 1) as u16))
+    } else {
+        None
+    }
+}
+
+/// Takes a `put` line in a tree: the path goes down to its answer yes, or the line breaks a rule.
+pub(crate) fn put_line(mill: &Mill, path: &mut Path, numbers: &Nums<'_>) -> Result<(), Why>
+    requires count { length numbers.now ≡ 2 }
+    requires orders { path.old.orders ≡ length mill.now.orders }
+    requires slabs { path.old.slabs ≡ length mill.now.yard }
+    ensures good { OnOk result (AllKept (ask_rules (NamesPut (length mill.now.orders) (length mill.now.yard) numbers.now) path.old.decisions (put_of numbers.now))
+        × (path.new ≡ record path.old { decisions = (put_of numbers.now, true) ∷ path.old.decisions; bad = None })) }
+    ensures bad { IfErr result (FirstBroken (ask_rules (NamesPut (length mill.now.orders) (length mill.now.yard) numbers.now) path.old.decisions (put_of numbers.now))) }
+{
+    let Some(ask) = named_put(mill.orders().len(), mill.yard().len(), numbers) else {
+        return Err(Why::Ask);
+    };
+    if !path.push(ask) {
+        return Err(Why::Repeat);
+    }
+    Ok(())
+}
+
+/// Takes a `leaf` line in a tree: its prices refute the limits under the path, or it breaks a rule.
+pub(crate) fn leaf_line(
+    mill: &Mill,
+    limits: Limits,
+    path: &mut Path,
+    numbers: &Nums<'_>,
+) -> Result<(), Why>
+    requires orders { path.old.orders ≡ length mill.now.orders }
+    requires slabs { path.old.slabs ≡ length mill.now.yard }
+    ensures good { OnOk result (AllKept (leaf_rules mill.now limits path.old.decisions numbers.now)) }
+    ensures bad { IfErr result (FirstBroken (leaf_rules mill.now limits path.old.decisions numbers.now)) }
+    ensures path { path.new ≡ record path.old { bad = path.new.bad } }
+{
+    match path.leaf_ok(mill, limits, numbers) {
+        Ok(()) => Ok(()),
+        Err(bad) => Err(leaf_why(bad)),
+    }
+}
+
+// The why of a broken rule of a leaf.
+fn leaf_why(bad: Bad) -> Why
+    ensures { result ≡ leaf_why bad }
+{
+    match bad {
+        Bad::Count => Why::Count,
+        Bad::Sign => Why::Sign,
+        Bad::Missing => Why::Missing,
+        Bad::Sum => Why::Sum,
+        Bad::Column => Why::Column,
+    }
+}
