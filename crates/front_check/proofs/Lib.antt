@@ -4,4 +4,3 @@ pub mod Ends
 pub mod Numbers
 pub mod OptionSteps
 pub mod Reading
-pub mod Answers

@@ -28,15 +28,18 @@ pub fn read_certificate<D: Desk>(
         (D.told desk.old) (D.told desk.new) (D.faults desk.old) (D.faults desk.new) result }
     ensures stopped { D.stopped desk.new ≡ is_fault result }
 {
+    let _within_limits = mill.colours();
+    desk.open_file(name)?;
     let mut checker = Checker::new(alloc, mill)?;
     let mut buffer = [0u8; PIECE];
-    desk.open_file(name)?;
-    'pieces: while !checker.failed() {
+    'pieces: loop {
+        if checker.failed() {
+            return Ok(checker.end());
+        }
         let count = desk.read(&mut buffer)?;
         if count == 0 {
-            break;
+            return Ok(checker.end());
         }
         checker.feed(&buffer[..count]);
     }
-    Ok(checker.end())
 }
