@@ -4,3 +4,4 @@ pub mod Ends
 pub mod Numbers
 pub mod OptionSteps
 pub mod Reading
+pub mod Once
