@@ -1,11 +1,14 @@
 -- How a run ends, from what its parts did.
-use Rattle.std.proofs.Common.{◌≡◌, ◌≢◌, ◌⊎◌, inl, inr, ℕ, List, [], ◌++◌, Option, Some, None, Ok, refl, sym, ap, ◌∙◌, subst, append-nil, rules}
+use Rattle.std.proofs.Common.{◌≡◌, ◌≢◌, ◌⊎◌, inl, inr, ℕ, List, [], ◌++◌, Option, Some, None, Ok, Err, refl, sym, ap, ◌∙◌, subst, append-nil}
+use Rattle.std.specs.FinMap.{get}
 use Rattle.slab_desk.specs.Desk.{Told, Files, Steps, WhereTold, ChangesLeft, Says, WithPrefix}
+use Rattle.slab_desk.proofs.Steps.{steps_join, steps_weaker}
+use Rattle.mill_model.specs.Mill.{Mill}
 use Rattle.front_check.specs.Texts.{memory_text}
 use Rattle.front_check.specs.Words.{CheckWords, Parsed}
 use Rattle.front_check.specs.Outcomes.{Owing, SaysOnly, BeginsToSay, StopsShort, Ran}
-use Rattle.front_check.specs.Owed.{OwesOfWords, OwesOfCheck}
-use Rattle.front_check.specs.Endings.{Finishes}
+use Rattle.front_check.specs.Owed.{OwesOfWords, OwesOfCheck, IsVerdictStatus, StopsSoon}
+use Rattle.front_check.specs.Endings.{Finishes, HasMill, ReadsToBad, LeavesRest}
 
 -- ---- reading, and then saying
 
@@ -87,3 +90,50 @@ ends_fault owes (Some x) (Some y) read = record {
 pub ran_parsed : (parsed : Parsed CheckWords) (words : CheckWords) (a b : Option Told) (result : ℕ) → parsed ≡ Ok words
     → Steps a b (Ran (OwesOfCheck words) result) → Steps a b (Ran (OwesOfWords parsed) result)
 ran_parsed parsed words a b result e ran = subst (λ (p : Parsed CheckWords). Steps a b (Ran (OwesOfWords p) result)) (sym e) ran
+
+-- ---- what is left to read
+
+-- the certificate was read after the other files
+pub rest_read : (words : CheckWords) (m : Mill) (status : ℕ) (a b c : Option Told) → WhereTold a (λ t. HasMill words.mill m t.files)
+    → Steps a b ChangesLeft → Steps b c (ReadsToBad m words.cert) → Steps a c (LeavesRest (Ok words) status)
+rest_read words m status a b c is read soon = joined (λ files. HasMill words.mill m files) a b c is (λ x y z w p q _. (
+  m,
+  w,
+  (q.0, subst (λ (files : Files). get files words.cert ≡ Some q.0) (ap (λ (t : Told). t.files) p) q.1, q.2),
+)) read soon
+
+-- and then something was said
+pub rest_said : (words : CheckWords) (code result : ℕ) (text : List ℕ) (a b c : Option Told) → code ≢ 5
+    → Steps a b (LeavesRest (Ok words) code) → Finishes code text b c result → Steps a c (LeavesRest (Ok words) result)
+rest_said words code result text a b c not5 rest end = elim end.status [
+  | inl e ↦ steps_join a b c (λ x y z p q v. let r = p (subst IsVerdictStatus e v) in (
+    r.0,
+    r.1,
+    (r.2.0, r.2.1, subst (λ (l : List ℕ). StopsSoon r.0 r.2.0 l) (sym (ap (λ (t : Told). t.left) q)) r.2.2),
+  )) rest (end.given (λ five. not5 (sym e ∙ five)))
+  | inr e ↦ steps_join a b c (λ x y z p q v. absurd (no_five result e v)) rest (end.short e)
+]
+  where
+    no_five : (n : ℕ) → n ≡ 5 → IsVerdictStatus n → ⊥
+    no_five n e (inl f) = cc
+    no_five n e (inr (inl f)) = cc
+    no_five n e (inr (inr (inl f))) = cc
+    no_five n e (inr (inr (inr f))) = cc
+
+-- without a verdict nothing is claimed of the rest
+pub rest_unclaimed : (words : CheckWords) (code result : ℕ) (text : List ℕ) (a b c : Option Told) → code ≢ 5 → (IsVerdictStatus code → ⊥)
+    → Steps a b ChangesLeft → Finishes code text b c result → Steps a c (LeavesRest (Ok words) result)
+rest_unclaimed words code result text a b c not5 none read end = rest_said words code result text a b c not5 (steps_weaker a b (λ x y p v. absurd (none v)) read) end
+
+pub rest_of_fault : (words : CheckWords) (a b : Option Told) → Steps a b ChangesLeft → Steps a b (LeavesRest (Ok words) 5)
+rest_of_fault words a b read = steps_weaker a b (λ x y p v. absurd (no_verdict v)) read
+  where
+    no_verdict : IsVerdictStatus 5 → ⊥
+    no_verdict (inl f) = cc
+    no_verdict (inr (inl f)) = cc
+    no_verdict (inr (inr (inl f))) = cc
+    no_verdict (inr (inr (inr f))) = cc
+
+pub rest_parsed : (parsed : Parsed CheckWords) (words : CheckWords) (a b : Option Told) (result : ℕ) → parsed ≡ Ok words
+    → Steps a b (LeavesRest (Ok words) result) → Steps a b (LeavesRest parsed result)
+rest_parsed parsed words a b result e rest = subst (λ (p : Parsed CheckWords). Steps a b (LeavesRest p result)) (sym e) rest

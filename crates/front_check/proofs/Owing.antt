@@ -16,7 +16,7 @@ use Rattle.front_check.specs.declared.texts.Source.TheVariants.{Orders, Yard as 
 use Rattle.front_check.specs.Words.{MillWords, CheckWords, Parsed}
 use Rattle.front_check.specs.Texts.{long_text, fault_text, verdict_text, status_of}
 use Rattle.front_check.specs.Outcomes.{Owing}
-use Rattle.front_check.specs.Owed.{Exactly, Nothing, OwesOfFile, OwesOfYard, OwesOfMill, OwesVerdict, OwesOfCert, MayEnd, IsVerdictStatus, most_bytes, with_colours}
+use Rattle.front_check.specs.Owed.{Exactly, OwesOfFile, OwesOfYard, OwesOfMill, OwesVerdict, OwesOfCert, OwesOfCheck, MayEnd, IsVerdictStatus, most_bytes, with_colours}
 use Rattle.front_check.specs.Endings.{HasValue, HasYard, HasMill, HasVerdict}
 
 is_short : (n : ℕ) → n ≤ most_bytes → nat_lt most_bytes n ≡ false
@@ -101,12 +101,22 @@ pub owes_cert : (m : Mill) (files : Files) (name : List ℕ) (v : Verdict) → H
 owes_cert m files name v (bytes, has, is) =
     subst (λ (x : Option (List ℕ)). MatchOption x ⊥ (λ b. OwesVerdict m b (status_of v) (verdict_text v))) (sym has) (owes_verdict m bytes v is)
 
+-- of files that have a mill and a certificate its verdict is owed
+pub owes_check : (words : CheckWords) (m : Mill) (v : Verdict) (files : Files) (status : ℕ) (text : List ℕ)
+    → HasMill words.mill m files → HasVerdict m words.cert v files → status ≡ status_of v → text ≡ verdict_text v → OwesOfCheck words files status text
+owes_check words m v files status text has read e f =
+    owes_mill (OwesOfCert files words.cert) files words.mill m status text has
+    (subst (λ (s : ℕ). OwesOfCert files words.cert m s text) (sym e) (subst (λ (t : List ℕ). OwesOfCert files words.cert m (status_of v) t) (sym f) (owes_cert m files words.cert v read)))
+
 -- each verdict has a status of its own
-pub verdict_status : (v : Verdict) → IsVerdictStatus (status_of v)
+verdict_status : (v : Verdict) → IsVerdictStatus (status_of v)
 verdict_status (Front points) = inl refl
 verdict_status (CutOff points) = inr (inl refl)
 verdict_status NoPlan = inr (inr (inl refl))
 verdict_status (Bad number rule) = inr (inr (inr refl))
+
+pub verdict_status_is : (v : Verdict) (status : ℕ) → status ≡ status_of v → IsVerdictStatus status
+verdict_status_is v status e = subst IsVerdictStatus (sym e) (verdict_status v)
 
 -- no run owes the status of a fault or of want of memory
 pub never_stops : (parsed : Parsed CheckWords) (status : ℕ) → MayEnd parsed status → (status ≢ 5) × (status ≢ 6)
