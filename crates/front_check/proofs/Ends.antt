@@ -1,5 +1,5 @@
 -- How a run ends, from what its parts did.
-use Rattle.std.proofs.Common.{◌≡◌, ◌≢◌, ◌⊎◌, inl, inr, ℕ, List, [], ◌++◌, Option, Some, None, Ok, Err, refl, sym, ap, ◌∙◌, subst, append-nil}
+use Rattle.std.proofs.Common.{◌≡◌, ◌≢◌, ◌⊎◌, inl, inr, ℕ, List, [], ◌++◌, Option, Some, None, Ok, Err, refl, sym, ap, ◌∙◌, subst, append-nil, arith}
 use Rattle.std.specs.FinMap.{get}
 use Rattle.slab_desk.specs.Desk.{Told, Files, Steps, WhereTold, ChangesLeft, Says, WithPrefix}
 use Rattle.slab_desk.proofs.Steps.{steps_join, steps_weaker}
@@ -102,6 +102,9 @@ rest_read words m status a b c is read soon = joined (λ files. HasMill words.mi
   (q.0, subst (λ (files : Files). get files words.cert ≡ Some q.0) (ap (λ (t : Told). t.files) p) q.1, q.2),
 )) read soon
 
+no_five : (n : ℕ) → n ≡ 5 → IsVerdictStatus n → ⊥
+no_five n e v = omega (arith, e, v)
+
 -- and then something was said
 pub rest_said : (words : CheckWords) (code result : ℕ) (text : List ℕ) (a b c : Option Told) → code ≢ 5
     → Steps a b (LeavesRest (Ok words) code) → Finishes code text b c result → Steps a c (LeavesRest (Ok words) result)
@@ -113,12 +116,6 @@ rest_said words code result text a b c not5 rest end = elim end.status [
   )) rest (end.given (λ five. not5 (sym e ∙ five)))
   | inr e ↦ steps_join a b c (λ x y z p q v. absurd (no_five result e v)) rest (end.short e)
 ]
-  where
-    no_five : (n : ℕ) → n ≡ 5 → IsVerdictStatus n → ⊥
-    no_five n e (inl f) = cc
-    no_five n e (inr (inl f)) = cc
-    no_five n e (inr (inr (inl f))) = cc
-    no_five n e (inr (inr (inr f))) = cc
 
 -- without a verdict nothing is claimed of the rest
 pub rest_unclaimed : (words : CheckWords) (code result : ℕ) (text : List ℕ) (a b c : Option Told) → code ≢ 5 → (IsVerdictStatus code → ⊥)
@@ -126,13 +123,7 @@ pub rest_unclaimed : (words : CheckWords) (code result : ℕ) (text : List ℕ) 
 rest_unclaimed words code result text a b c not5 none read end = rest_said words code result text a b c not5 (steps_weaker a b (λ x y p v. absurd (none v)) read) end
 
 pub rest_of_fault : (words : CheckWords) (a b : Option Told) → Steps a b ChangesLeft → Steps a b (LeavesRest (Ok words) 5)
-rest_of_fault words a b read = steps_weaker a b (λ x y p v. absurd (no_verdict v)) read
-  where
-    no_verdict : IsVerdictStatus 5 → ⊥
-    no_verdict (inl f) = cc
-    no_verdict (inr (inl f)) = cc
-    no_verdict (inr (inr (inl f))) = cc
-    no_verdict (inr (inr (inr f))) = cc
+rest_of_fault words a b read = steps_weaker a b (λ x y p v. absurd (no_five 5 refl v)) read
 
 pub rest_parsed : (parsed : Parsed CheckWords) (words : CheckWords) (a b : Option Told) (result : ℕ) → parsed ≡ Ok words
     → Steps a b (LeavesRest (Ok words) result) → Steps a b (LeavesRest parsed result)

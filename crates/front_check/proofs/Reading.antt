@@ -1,5 +1,5 @@
 -- A certificate that is read in pieces.
-use Rattle.std.proofs.Common.{◌≡◌, ◌⊎◌, ◌↔◌, inl, inr, ℕ, ◌+◌, ◌<◌, ◌≤◌, Bool, true, false, cond, IsTrue, List, [], ◌++◌, length, take, Option, Some, None, is_some, refl, sym, ap, ◌∙◌, subst, append_assoc, append-nil, length-append, arith}
+use Rattle.std.proofs.Common.{◌≡◌, ◌⊎◌, ◌↔◌, inl, inr, ℕ, ◌+◌, ◌<◌, ◌≤◌, Bool, true, false, cond, IsTrue, List, [], ◌∷◌, ◌++◌, length, take, Option, Some, None, is_some, refl, sym, ap, ◌∙◌, subst, append_assoc, append-nil, arith}
 use Rattle.std.specs.FinMap.{get}
 use Rattle.slab_desk.specs.Desk.{Told, Files, Steps, WhereTold, HasFile, HasRead, Reads, Opens, ChangesLeft}
 use Rattle.slab_desk.proofs.Steps.{steps_join, steps_weaker}
@@ -106,10 +106,14 @@ verdict_bad checker m name v old new within mill fed bad is =
 
 -- ---- the end of the file
 
+take_none : (xs : List ℕ) → take 0 xs ≡ []
+take_none [] = refl
+take_none (x ∷ xs) = refl
+
 ends_here : (k : ℕ) (buffer : List ℕ) (x y : Told) → k ≡ 0 → 0 < length buffer → Reads k buffer x y → (x.left ≡ []) × (y ≡ x)
 ends_here k buffer x y none some reads =
     let empty : x.left ≡ [] = reads.none none some in
-    let still : take k buffer ++ y.left ≡ y.left = ap (λ (n : ℕ). take n buffer ++ y.left) none in
+    let still : take k buffer ++ y.left ≡ y.left = ap (λ (n : ℕ). take n buffer ++ y.left) none ∙ ap (λ (l : List ℕ). l ++ y.left) (take_none buffer) in
     let left : y.left ≡ x.left = sym (reads.bytes ∙ still) in
     (empty, reads.others ∙ ap (λ (l : List ℕ). record x { left = l }) left)
 

@@ -24,7 +24,7 @@ pub fn said(alloc: Global, verdict: &Verdict) -> Result<Ending, AllocError>
         }),
         Verdict::NoPlan => Ok(Ending {
             status: 4,
-            text: String::try_from_str(alloc, "noplan\n")?,
+            text: String::from_str(alloc, "noplan\n")?,
         }),
         Verdict::No { line, why } => Ok(Ending {
             status: 7,

@@ -1,4 +1,4 @@
-use Rattle.std.proofs.Common.{string_bytes, Ok, inr, inl}
+use Rattle.std.proofs.Common.{string_bytes, Ok, inr, arith}
 use Rattle.front_check.specs.Words.{CheckWords}
 use Rattle.front_check.specs.Jobs.{words_of}
 use Rattle.front_check.specs.Owed.{OwesOfCheck}
@@ -37,5 +37,5 @@ returns-in-Err-Refused-clause-rest g c =
     let ensured = rw c.in-Err-Refused.field-0-is at c.in-Err-Refused.ensures in
     rest_parsed _ words _ _ c.say.result c.in-Ok.ensures.job
     (rest_unclaimed words 2 c.say.result (string_bytes c.in-Err-Refused.text) _ _ _
-    (λ is. cc) (λ is. elim is [ | inl e ↦ cc | inr is ↦ elim is [ | inl e ↦ cc | inr is ↦ elim is [ | inl e ↦ cc | inr e ↦ cc ] ] ]) ensured.reads.left
+    (λ is. cc) (λ v. omega (arith, v)) ensured.reads.left
     (rw c.as_str.ensures.value at c.say.ensures.finishes))
