@@ -1,7 +1,7 @@
 -- A certificate that is read in pieces.
 use Rattle.std.proofs.Common.{◌≡◌, ◌⊎◌, ◌↔◌, inl, inr, ℕ, ◌+◌, ◌<◌, ◌≤◌, Bool, true, false, cond, IsTrue, List, [], ◌∷◌, ◌++◌, length, take, Option, Some, None, is_some, refl, sym, ap, ◌∙◌, subst, append_assoc, append-nil, arith}
 use Rattle.std.specs.FinMap.{get}
-use Rattle.slab_desk.specs.Desk.{Told, Files, Steps, WhereTold, HasFile, HasRead, Reads, Opens, ChangesLeft}
+use Rattle.slab_desk.specs.Desk.{Told, Files, Steps, WhereTold, HasFile, HasRead, Reads, Opens, Stays, ChangesLeft}
 use Rattle.slab_desk.proofs.Steps.{steps_join, steps_weaker}
 use Rattle.slab_desk.proofs.Pieces.{opened, read_more}
 use Rattle.mill_model.specs.Mill.{Mill, IsInLimits}
@@ -148,12 +148,19 @@ pub stops_at_end : (checker : Reading) (m : Mill) (name buffer : List ℕ) (k : 
 stops_at_end checker m name buffer k old now new mill none some fed last =
     steps_join old now new (λ x y z p q. subst (λ (t : Told). ReadsToBad m name x t) (sym (ends_here k buffer y z none some q).1) p) (stops_soon checker m name old now mill fed) last
 
--- a file was read, and nothing else happened
-pub only_read : (name fed : List ℕ) (old now : Option Told) → Steps old now (HasRead name fed) → Steps old now ChangesLeft
-only_read name fed old now reads = steps_weaker old now (λ x y p. p.others) reads
+-- ---- nothing else happened
 
 read_on : (x y z : Told) → ChangesLeft x y → ChangesLeft y z → ChangesLeft x z
 read_on x y z p q = q ∙ ap (λ (t : Told). record t { left = z.left }) p
 
-pub only_reads : (name fed buffer : List ℕ) (k : ℕ) (old now new : Option Told) → Steps old now (HasRead name fed) → Steps now new (Reads k buffer) → Steps old new ChangesLeft
-only_reads name fed buffer k old now new reads last = steps_join old now new (λ x y z p q. read_on x y z p.others q.others) reads last
+-- where a line is bad
+pub fed_only : (checker : Reading) (name : List ℕ) (old now : Option Told) → HasFed checker name old now → Steps old now ChangesLeft
+fed_only checker name old now fed = steps_weaker old now (λ x y p. p.others) fed.reads
+
+-- at the end of the file
+pub fed_and_read : (checker : Reading) (name buffer : List ℕ) (k : ℕ) (old now new : Option Told) → HasFed checker name old now → Steps now new (Reads k buffer) → Steps old new ChangesLeft
+fed_and_read checker name buffer k old now new fed last = steps_join old now new (λ x y z p q. read_on x y z p.others q.others) fed.reads last
+
+-- where the outside failed
+pub fed_and_failed : (checker : Reading) (name : List ℕ) (old now new : Option Told) → HasFed checker name old now → Steps now new Stays → Steps old new ChangesLeft
+fed_and_failed checker name old now new fed last = steps_join old now new (λ x y z p q. subst (λ (t : Told). ChangesLeft x t) (sym q) p.others) fed.reads last

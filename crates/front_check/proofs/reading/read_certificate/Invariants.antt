@@ -1,4 +1,4 @@
-use Rattle.std.proofs.Common.{◌≡◌, length}
+use Rattle.std.proofs.Common.{◌≡◌, false, length}
 use Rattle.mill_model.specs.Mill.{IsInLimits}
 use Rattle.slab_desk.specs.Desk.{Steps}
 use Rattle.front_check.proofs.Reading.{HasFed, room_left}
@@ -11,6 +11,7 @@ invariant-pieces g l = record {
   within : IsInLimits l.mill;
   size : length l.buffer ≡ 8192;
   kept : g.D.Desk.faults l.desk ≡ g.D.Desk.faults l.fn.desk;
+  stopped : g.D.Desk.stopped l.desk ≡ false;
 }
 
 abbrev pub decreases-pieces : goal.decreases-pieces
