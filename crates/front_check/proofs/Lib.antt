@@ -3,5 +3,5 @@ pub mod Owing
 pub mod Ends
 pub mod Numbers
 pub mod OptionSteps
-pub mod Reading
+pub mod Pieces
 pub mod Once
