@@ -32,10 +32,10 @@ bound : {A B : Type 0} (r : Parsed A) (f : A → Parsed B) (b : B) → (r >>= f)
 bound (Ok a) f b e = (a, refl, e)
 bound (Err n) f b e = cc
 
-same_ok : {A : Type 0} (a b : A) → Ok {A} {ℕ} a ≡ Ok b → a ≡ b
-same_ok a b e = cc
+same_ok : {A : Type 0} (a b : A) (r : Parsed A) → r ≡ Ok a → r ≡ Ok b → a ≡ b
+same_ok a b r e f = cc
 
-AreColours : Options → Type 0
+abbrev AreColours : Options → Type 0
 AreColours o = IfSome o.colours (IsBetween 1 most_colour_limit)
 
 chosen : (b c d : Bool) (n k : ℕ) → (if b && (c && d) then Some n else None) ≡ Some k → (n ≡ k) × (c ≡ true) × (d ≡ true)
@@ -56,7 +56,7 @@ given_between number n (Some word) e = read (number_named 1 most_colour_limit wo
   where
     read : (r : Option ℕ) → number_named 1 most_colour_limit word ≡ r → or_at number r ≡ Ok n → IsBetween 1 most_colour_limit n
     read None is f = cc
-    read (Some k) is f = named_between word n (is ∙ ap (λ (x : ℕ). Some x) (same_ok k n f))
+    read (Some k) is f = named_between word n (is ∙ ap (λ (x : ℕ). Some x) (same_ok k n (Ok k) refl f))
 
 either : {P : Type 0} (b c : Bool) (x y : Parsed Options) (number : ℕ) (next : Options) → (if b then x else (if c then y else Err number)) ≡ Ok next → (x ≡ Ok next → P) → (y ≡ Ok next → P) → P
 either true c x y number next e f g = f e
@@ -69,12 +69,12 @@ one_more number o next name value are e =
     (given_at file_named (number + 1) value >>= λ file. Ok (record o { yard = Some file }))
     (given_at (number_named 1 most_colour_limit) (number + 1) value >>= λ colours. Ok (record o { colours = Some colours }))
     number next e
-    (λ f. let b = bound (given_at file_named (number + 1) value) (λ file. Ok (record o { yard = Some file })) next f in subst AreColours (same_ok (record o { yard = Some b.0 }) next b.2) are)
+    (λ f. let b = bound (given_at file_named (number + 1) value) (λ file. Ok (record o { yard = Some file })) next f in subst AreColours (same_ok (record o { yard = Some b.0 }) next (Ok (record o { yard = Some b.0 })) refl b.2) are)
     (λ f. let b = bound (given_at (number_named 1 most_colour_limit) (number + 1) value) (λ colours. Ok (record o { colours = Some colours })) next f in
-    subst AreColours (same_ok (record o { colours = Some b.0 }) next b.2) (given_between (number + 1) b.0 value b.1))
+    subst AreColours (same_ok (record o { colours = Some b.0 }) next (Ok (record o { colours = Some b.0 })) refl b.2) (given_between (number + 1) b.0 value b.1))
 
 all_more : (number : ℕ) (o last : Options) (words : List (List ℕ)) → AreColours o → options_from number o words ≡ Ok last → AreColours last
-all_more number o last [] are e = subst AreColours (same_ok o last e) are
+all_more number o last [] are e = subst AreColours (same_ok o last (Ok o) refl e) are
 all_more number o last (name ∷ []) are e = one_more number o last name None are e
 all_more number o last (name ∷ value ∷ words) are e =
     let b = bound (with_option number o name (Some value)) (λ more. options_from (number + 2) more words) last e in
@@ -89,7 +89,8 @@ colours_are words w e =
     let a = bound (word_at file_named 2 words) (λ orders. word_at file_named 3 orders.1 >>= λ cert. options_from 4 no_options cert.1 >>= λ options. Ok (record { mill = mill_words orders.0 options; cert = cert.0 })) w e in
     let b = bound (word_at file_named 3 a.0.1) (λ cert. options_from 4 no_options cert.1 >>= λ options. Ok (record { mill = mill_words a.0.0 options; cert = cert.0 })) w a.2 in
     let c = bound (options_from 4 no_options b.0.1) (λ options. Ok (record { mill = mill_words a.0.0 options; cert = b.0.0 })) w b.2 in
-    subst (λ (x : CheckWords). IsBetween 1 most_colour_limit x.mill.colours) (same_ok (record { mill = mill_words a.0.0 c.0; cert = b.0.0 }) w c.2)
+    let made : CheckWords = record { mill = mill_words a.0.0 c.0; cert = b.0.0 } in
+    subst (λ (x : CheckWords). IsBetween 1 most_colour_limit x.mill.colours) (same_ok made w (Ok made) refl c.2)
     (colours_or c.0.colours (all_more 4 no_options c.0 b.0.1 tt c.1))
 
 colours_between : (words : List (List ℕ)) (w : CheckWords) → check_words words ≡ Ok w → IsBetween 1 most_colour_limit w.mill.colours
@@ -132,7 +133,7 @@ yarded m bytes yard within e =
 
 -- ---- one answer
 
-Same : ℕ → ℕ → List ℕ → List ℕ → Type 0
+abbrev Same : ℕ → ℕ → List ℕ → List ℕ → Type 0
 Same status other text said = (status ≡ other) × (text ≡ said)
 
 exactly_once : (code status other : ℕ) (owed text said : List ℕ) → Exactly code owed status text → Exactly code owed other said → Same status other text said
@@ -171,7 +172,7 @@ verdict_once m bytes status other text said within p q =
     let a = said_of_it m bytes status text p in
     let b = said_of_it m bytes other said q in
     let same : a.0 ≡ b.0 = one_verdict m bytes a.0 b.0 within a.1 b.1 in
-    (a.2.0 ∙ ap status_of same ∙ sym b.2.0, a.2.1 ∙ ap verdict_text same ∙ sym b.2.1)
+    (a.2 ∙ ap status_of same ∙ sym b.2, a.3 ∙ ap verdict_text same ∙ sym b.3)
 
 cert_once : (files : Files) (name : List ℕ) (m : Mill) (status other : ℕ) (text said : List ℕ) → IsInLimits m → OwesOfCert files name m status text → OwesOfCert files name m other said → Same status other text said
 cert_once files name m status other text said within = there_once (get files name) _ _ (λ bytes. verdict_once m bytes status other text said within)

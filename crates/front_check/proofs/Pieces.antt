@@ -42,12 +42,12 @@ fed_nothing checker name old now stands opens = record {
 -- whether a line is bad of what was fed
 pub is_good : (checker : Reading) (bytes : List ℕ) (failed : Bool) → ((fed : List ℕ) → Stands checker fed → IsTrue failed ↔ HasBadLine All checker.mill fed)
     → failed ≡ false → Stands checker bytes → HasBadLine All checker.mill bytes → ⊥
-is_good checker bytes false exact e stands bad = (exact bytes stands).1 bad
+is_good checker bytes false exact e stands bad = cc ((exact bytes stands).1 bad)
 is_good checker bytes true exact e stands bad = cc
 
 pub is_bad : (checker : Reading) (bytes : List ℕ) (failed : Bool) → ((fed : List ℕ) → Stands checker fed → IsTrue failed ↔ HasBadLine All checker.mill fed)
     → failed ≡ true → Stands checker bytes → HasBadLine All checker.mill bytes
-is_bad checker bytes true exact e stands = (exact bytes stands).0 tt
+is_bad checker bytes true exact e stands = (exact bytes stands).0 refl
 is_bad checker bytes false exact e stands = cc
 
 -- one piece more
@@ -68,7 +68,7 @@ fed_more checker next name buffer k failed old now later fed exact not_yet reads
 
 -- ---- the loop ends
 
-pub room_left : Reading → ℕ
+abbrev pub room_left : Reading → ℕ
 room_left r = cond (is_some r.failed) 0 (1 + room r)
 
 pub room_falls : (checker next : Reading) (fed : ℕ) → is_some checker.failed ≡ false → 0 < fed → HasLessRoom checker next fed → room_left next < room_left checker

@@ -9,8 +9,8 @@ use Rattle.front_check.proofs.Telling.{told_before, told_both}
 use Rattle.front_check.proofs.Ends.{rest_read}
 use Rattle.front_check.proofs.program.answer.Goals as goal
 
-pub returns-in-Check-clause-ending : goal.returns-in-Check-clause-ending
-returns-in-Check-clause-ending g c =
+pub returns-clause-ending : goal.returns-clause-ending
+returns-clause-ending g c =
     let words : CheckWords = record { mill = named_mill c.in-Check.orders c.in-Check.yard c.in-Check.colours; cert = c.in-Check.cert.now } in
     let mill = c.in_ok-mill.mill in
     let v = said_of c.in_ok-verdict.verdict in
@@ -22,8 +22,8 @@ returns-in-Check-clause-ending g c =
     c.in_ok-mill.ensures.mill
     (told_before (HasVerdict mill words.cert v) (g.D.Desk.told c.args.desk.now) (g.D.Desk.told c.read_mill.new.desk) c.in_ok-mill.ensures.reads.left c.in_ok-verdict.ensures.verdict)
 
-pub returns-in-Check-clause-rest : goal.returns-in-Check-clause-rest
-returns-in-Check-clause-rest g c =
+pub returns-clause-rest : goal.returns-clause-rest
+returns-clause-rest g c =
     let words : CheckWords = record { mill = named_mill c.in-Check.orders c.in-Check.yard c.in-Check.colours; cert = c.in-Check.cert.now } in
     rest_read words c.in_ok-mill.mill c.in_ok-said.field-0.status (g.D.Desk.told c.args.desk.now) (g.D.Desk.told c.read_mill.new.desk) _
     c.in_ok-mill.ensures.mill c.in_ok-mill.ensures.reads.left c.in_ok-verdict.ensures.soon

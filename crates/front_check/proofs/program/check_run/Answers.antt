@@ -18,10 +18,10 @@ pub returns-in-Err-Refused-clause-ran : goal.returns-in-Err-Refused-clause-ran
 returns-in-Err-Refused-clause-ran g c =
     let words : CheckWords = words_of c.in-Ok.job in
     let ensured = rw c.in-Err-Refused.field-0-is at c.in-Err-Refused.ensures in
-    ran_parsed _ words _ _ c.say.result c.in-Ok.ensures.job
-    (ends_owed (OwesOfCheck words) 2 c.say.result (string_bytes c.in-Err-Refused.text) _ _ _
+    ran_parsed _ words _ _ c.say-in-Err-Refused.result c.in-Ok.ensures.job
+    (ends_owed (OwesOfCheck words) 2 c.say-in-Err-Refused.result (string_bytes c.in-Err-Refused.text) _ _ _
     ((λ is. cc), (λ is. cc)) ensured.reads.stop ensured.reads.left
-    (rw c.as_str.ensures.value at c.say.ensures.finishes))
+    (rw c.as_str-in-Err-Refused.ensures.value at c.say-in-Err-Refused.ensures.finishes))
 
 pub returns-in-Ok-answer-clause-rest : goal.returns-in-Ok-answer-clause-rest
 returns-in-Ok-answer-clause-rest g c =
@@ -35,7 +35,7 @@ pub returns-in-Err-Refused-clause-rest : goal.returns-in-Err-Refused-clause-rest
 returns-in-Err-Refused-clause-rest g c =
     let words : CheckWords = words_of c.in-Ok.job in
     let ensured = rw c.in-Err-Refused.field-0-is at c.in-Err-Refused.ensures in
-    rest_parsed _ words _ _ c.say.result c.in-Ok.ensures.job
-    (rest_unclaimed words 2 c.say.result (string_bytes c.in-Err-Refused.text) _ _ _
+    rest_parsed _ words _ _ c.say-in-Err-Refused.result c.in-Ok.ensures.job
+    (rest_unclaimed words 2 c.say-in-Err-Refused.result (string_bytes c.in-Err-Refused.text) _ _ _
     (λ is. cc) (λ v. omega (arith, v)) ensured.reads.left
-    (rw c.as_str.ensures.value at c.say.ensures.finishes))
+    (rw c.as_str-in-Err-Refused.ensures.value at c.say-in-Err-Refused.ensures.finishes))

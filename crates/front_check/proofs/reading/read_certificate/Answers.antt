@@ -11,7 +11,7 @@ pub pieces-init : goal.pieces-init
 pieces-init g c = record {
   fed = fed_nothing _ c.args.name.now _ _ c.in_ok-checker.ensures.stands c.in_ok-open_file.ensures.opens;
   mill = c.in_ok-checker.ensures.mill;
-  within = c.colours.ensures.limits;
+  within = c.colours-within_limits.ensures.limits;
   kept = c.in_ok-open_file.ensures.cause.kept;
   stopped = c.in_ok-open_file.ensures.stopped;
 }
@@ -30,7 +30,7 @@ pieces-preserved g c =
 
 pub pieces-smaller : goal.pieces-smaller
 pieces-smaller g c =
-    room_falls _ _ c.in_ok-count.count (sym c.failed.ensures.value ∙ c.if-failed.false) (grind (arith, common_steps)) (c.feed.ensures.room _ c.pieces.invariant.fed.stands)
+    room_falls _ _ (length (take c.in_ok-count.count c.read.new.buf)) (sym c.failed.ensures.value ∙ c.if-failed.false) (grind (arith, common_steps)) (c.feed.ensures.room _ c.pieces.invariant.fed.stands)
 
 pub returns-then-failed-clause-verdict : goal.returns-then-failed-clause-verdict
 returns-then-failed-clause-verdict g c =
@@ -45,8 +45,8 @@ pub returns-then-count-eq0-clause-verdict : goal.returns-then-count-eq0-clause-v
 returns-then-count-eq0-clause-verdict g c =
     let fed = c.pieces.invariant.fed in
     let some : 0 < length c.read.new.buf = grind (arith, common_steps) in
-    verdict_whole _ c.args.mill.now c.args.name.now c.read.new.buf c.in_ok-count.count (said_of c.end-2.result) _ _ _ c.pieces.invariant.mill c.if-count-eq0.true some fed
-    (c.end-2.ensures.verdict _ fed.stands) c.in_ok-count.ensures.reads
+    verdict_whole _ c.args.mill.now c.args.name.now c.read.new.buf c.in_ok-count.count (said_of c.end-then-count-eq0.result) _ _ _ c.pieces.invariant.mill c.if-count-eq0.true some fed
+    (c.end-then-count-eq0.ensures.verdict _ fed.stands) c.in_ok-count.ensures.reads
 
 pub returns-then-count-eq0-clause-soon : goal.returns-then-count-eq0-clause-soon
 returns-then-count-eq0-clause-soon g c =
