@@ -16,8 +16,11 @@ name_bytes name = option_map (λ name. name.now) name
 abbrev pub named_mill : Bor (List ℕ) → Option (Bor (List ℕ)) → ℕ → MillWords
 named_mill orders yard colours = record { orders = orders.now; yard = name_bytes yard; colours = colours }
 
+abbrev pub named_check : Bor (List ℕ) → Bor (List ℕ) → Option (Bor (List ℕ)) → ℕ → CheckWords
+named_check orders cert yard colours = record { mill = named_mill orders yard colours; cert = cert.now }
+
 abbrev pub words_of : CheckJob → CheckWords
-words_of (Check orders cert yard colours) = record { mill = named_mill orders yard colours; cert = cert.now }
+words_of (Check orders cert yard colours) = named_check orders cert yard colours
 
 abbrev pub IsInRange : CheckJob → Type 0
 IsInRange (Check orders cert yard colours) = IsBetween 1 most_colour_limit colours

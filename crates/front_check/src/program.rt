@@ -3,7 +3,8 @@ ghost use Rattle.std.specs.Prelude.{◌≡◌, ◌≢◌, ◌⊎◌, ◌↔◌, 
 ghost use Rattle.std.specs.String.{string_bytes};
 ghost use Rattle.slab_counter.specs.Counter.{Rose, last_count};
 ghost use Rattle.slab_desk.specs.Desk.{Steps};
-ghost use Rattle.front_check.specs.Jobs.{words_of, IsInRange};
+ghost use Rattle.mill_model.specs.Mill.{IsBetween, most_colour_limit};
+ghost use Rattle.front_check.specs.Jobs.{words_of, named_check, IsInRange};
 ghost use Rattle.front_check.specs.Words.{check_words};
 ghost use Rattle.front_check.specs.Texts.{usage_text as usage_line};
 ghost use Rattle.front_check.specs.Outcomes.{Ran};
@@ -89,12 +90,31 @@ fn answer<D: Desk>(alloc: Global, job: CheckJob<'_>, desk: &mut D) -> Result<End
             cert,
             yard,
             colours,
-        } => {
-            let mill = read_mill(alloc, desk, orders, yard, colours)?;
-            let verdict = read_certificate(alloc, desk, &mill, cert)?;
-            Ok(said(alloc, &verdict)?)
-        }
+        } => checked(alloc, desk, orders, cert, yard, colours),
     }
+}
+
+// What a certificate shows of a mill.
+fn checked<D: Desk>(
+    alloc: Global,
+    desk: &mut D,
+    orders: &str,
+    cert: &str,
+    yard: Option<&str>,
+    colours: u16,
+) -> Result<Ending, Stop>
+    requires { IsBetween 1 most_colour_limit colours }
+    ensures ending { IfOk result (IsEnding (OwesOfCheck (named_check orders.entry cert.entry yard.entry colours)) (D.told desk.old)) }
+    ensures status { IfOk result (λ ending. IsVerdictStatus ending.status) }
+    ensures rest { IfOk result (λ ending. Steps (D.told desk.old) (D.told desk.new)
+        (LeavesRest (Ok (named_check orders.entry cert.entry yard.entry colours)) ending.status)) }
+    ensures reads { HasOnlyRead (IsStop (OwesOfCheck (named_check orders.entry cert.entry yard.entry colours)))
+        (D.told desk.old) (D.told desk.new) (D.faults desk.old) (D.faults desk.new) result }
+    ensures stopped { D.stopped desk.new ≡ is_fault result }
+{
+    let mill = read_mill(alloc, desk, orders, yard, colours)?;
+    let verdict = read_certificate(alloc, desk, &mill, cert)?;
+    Ok(said(alloc, &verdict)?)
 }
 
 // Says a text, and answers its status, or 5 where the outside fails. The last call of the desk didn't fail, or there is

@@ -30,7 +30,7 @@ pieces-preserved g c =
 
 pub pieces-smaller : goal.pieces-smaller
 pieces-smaller g c =
-    room_falls _ _ (length (take c.in_ok-count.count c.read.new.buf)) (sym c.failed.ensures.value ∙ c.if-failed.false) (grind (arith, common_steps)) (c.feed.ensures.room _ c.pieces.invariant.fed.stands)
+    room_falls c.pieces.checker c.feed.new.self (length (take c.in_ok-count.count c.read.new.buf)) (sym c.failed.ensures.value ∙ c.if-failed.false) (grind (arith, common_steps)) (c.feed.ensures.room _ c.pieces.invariant.fed.stands)
 
 pub returns-then-failed-clause-verdict : goal.returns-then-failed-clause-verdict
 returns-then-failed-clause-verdict g c =
