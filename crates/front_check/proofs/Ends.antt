@@ -1,12 +1,12 @@
 -- How a run ends, from what its parts did.
-use Rattle.std.proofs.Common.{◌≡◌, ◌≢◌, ◌⊎◌, inl, inr, ℕ, List, [], ◌++◌, Option, Some, None, Ok, Err, refl, sym, ap, ◌∙◌, subst, append-nil, arith}
+use Rattle.std.proofs.Common.{◌≡◌, ◌≢◌, inl, inr, ℕ, List, [], ◌++◌, Option, Some, None, Ok, refl, sym, ap, ◌∙◌, subst, append-nil, arith}
 use Rattle.std.specs.FinMap.{get}
 use Rattle.slab_desk.specs.Desk.{Told, Files, Steps, WhereTold, ChangesLeft, Says, WithPrefix}
 use Rattle.slab_desk.proofs.Steps.{steps_join, steps_weaker}
 use Rattle.mill_model.specs.Mill.{Mill}
 use Rattle.front_check.specs.Texts.{memory_text}
 use Rattle.front_check.specs.Words.{CheckWords, Parsed}
-use Rattle.front_check.specs.Outcomes.{Owing, SaysOnly, BeginsToSay, StopsShort, Ran}
+use Rattle.front_check.specs.Outcomes.{Owing, SaysOnly, BeginsToSay, Ran}
 use Rattle.front_check.specs.Owed.{OwesOfWords, OwesOfCheck, IsVerdictStatus, StopsSoon}
 use Rattle.front_check.specs.Endings.{Finishes, HasMill, ReadsToBad, LeavesRest}
 

@@ -1,14 +1,14 @@
 -- Words and files leave one answer.
-use Rattle.std.proofs.Common.{◌≡◌, inl, inr, ℕ, ◌+◌, ◌≤◌, Bool, true, false, nat_lt, nat_le, List, [], ◌∷◌, length, Option, Some, None, IfSome, Result, Ok, Err, refl, sym, ap, ◌∙◌, subst, MatchResult, decimal, if◌then◌else◌, ◌&&◌, codes, arith}
+use Rattle.std.proofs.Common.{◌≡◌, inl, inr, ℕ, ◌+◌, Bool, true, false, nat_lt, nat_le, List, [], ◌∷◌, length, Option, Some, None, IfSome, Result, Ok, Err, refl, sym, ap, ◌∙◌, subst, MatchResult, decimal, if◌then◌else◌, ◌&&◌, codes, arith}
 use Rattle.std.specs.Bool.{MatchBool}
 use Rattle.std.specs.FinMap.{get}
 use Rattle.std.specs.Prelude.{MatchOption, is_none}
-use Rattle.std.specs.Option.{option_and_then, unwrap_or}
+use Rattle.std.specs.Option.{unwrap_or}
 use Rattle.std.specs.Str.{bytes_eq}
 use Rattle.std.specs.Str.Parse.{digits_value}
 use Rattle.std.proofs.lemmas.Bool.{leb-true}
 use Rattle.slab_desk.specs.Desk.{Files}
-use Rattle.mill_model.specs.Mill.{Mill, Yard, IsInLimits, IsYard, IsBetween, with_yard, most_colour_limit}
+use Rattle.mill_model.specs.Mill.{Mill, Yard, IsInLimits, IsBetween, with_yard, most_colour_limit}
 use Rattle.mill_read.specs.declared.fault.TextFault.{TextFault}
 use Rattle.mill_read.specs.OrderFile.{order_file}
 use Rattle.mill_read.specs.YardFile.{yard_file}
@@ -19,10 +19,10 @@ use Rattle.cert_rules.specs.Verdicts.Verdict.{Front, NoPlan, CutOff, Bad}
 use Rattle.cert_rules.proofs.Verdicts.{one_verdict}
 use Rattle.front_check.specs.declared.texts.Source.{Source}
 use Rattle.front_check.specs.declared.texts.Source.TheVariants.{Orders, Yard as YardSource}
-use Rattle.front_check.specs.Words.{MillWords, CheckWords, Parsed, Options, ◌>>=◌, or_at, word_at, given_at, file_named, number_named, with_option, options_from, no_options, mill_words, check_of, check_words, default_colours}
+use Rattle.front_check.specs.Words.{CheckWords, Parsed, Options, ◌>>=◌, or_at, word_at, given_at, file_named, number_named, with_option, options_from, no_options, mill_words, check_of, check_words, default_colours}
 use Rattle.front_check.specs.Texts.{long_text, fault_text, usage_text, verdict_text, status_of}
 use Rattle.front_check.specs.Outcomes.{Owing}
-use Rattle.front_check.specs.Owed.{Exactly, OwesOfFile, OwesOfYard, OwesOfMill, OwesVerdict, OwesOfCert, OwesOfCheck, OwesOfWords, most_bytes, with_colours}
+use Rattle.front_check.specs.Owed.{Exactly, OwesOfFile, OwesOfYard, OwesVerdict, OwesOfCert, OwesOfCheck, OwesOfWords, most_bytes, with_colours}
 use Rattle.front_check.specs.Laws.{OneAnswer}
 
 -- ---- the colour limit of words that can stand
@@ -32,8 +32,11 @@ bound : {A B : Type 0} (r : Parsed A) (f : A → Parsed B) (b : B) → (r >>= f)
 bound (Ok a) f b e = (a, refl, e)
 bound (Err n) f b e = cc
 
-same_ok : {A : Type 0} (a b : A) (r : Parsed A) → r ≡ Ok a → r ≡ Ok b → a ≡ b
-same_ok a b r e f = cc
+abbrev ok : {A : Type 0} → A → Parsed A
+ok a = Ok a
+
+same_ok : {A : Type 0} (a b : A) → ok a ≡ Ok b → a ≡ b
+same_ok a b e = cc
 
 abbrev AreColours : Options → Type 0
 AreColours o = IfSome o.colours (IsBetween 1 most_colour_limit)
@@ -56,7 +59,7 @@ given_between number n (Some word) e = read (number_named 1 most_colour_limit wo
   where
     read : (r : Option ℕ) → number_named 1 most_colour_limit word ≡ r → or_at number r ≡ Ok n → IsBetween 1 most_colour_limit n
     read None is f = cc
-    read (Some k) is f = named_between word n (is ∙ ap (λ (x : ℕ). Some x) (same_ok k n (Ok k) refl f))
+    read (Some k) is f = named_between word n (is ∙ ap (λ (x : ℕ). Some x) (same_ok k n f))
 
 either : {P : Type 0} (b c : Bool) (x y : Parsed Options) (number : ℕ) (next : Options) → (if b then x else (if c then y else Err number)) ≡ Ok next → (x ≡ Ok next → P) → (y ≡ Ok next → P) → P
 either true c x y number next e f g = f e
@@ -69,12 +72,12 @@ one_more number o next name value are e =
     (given_at file_named (number + 1) value >>= λ file. Ok (record o { yard = Some file }))
     (given_at (number_named 1 most_colour_limit) (number + 1) value >>= λ colours. Ok (record o { colours = Some colours }))
     number next e
-    (λ f. let b = bound (given_at file_named (number + 1) value) (λ file. Ok (record o { yard = Some file })) next f in subst AreColours (same_ok (record o { yard = Some b.0 }) next (Ok (record o { yard = Some b.0 })) refl b.2) are)
+    (λ f. let b = bound (given_at file_named (number + 1) value) (λ file. Ok (record o { yard = Some file })) next f in subst AreColours (same_ok (record o { yard = Some b.0 }) next b.2) are)
     (λ f. let b = bound (given_at (number_named 1 most_colour_limit) (number + 1) value) (λ colours. Ok (record o { colours = Some colours })) next f in
-    subst AreColours (same_ok (record o { colours = Some b.0 }) next (Ok (record o { colours = Some b.0 })) refl b.2) (given_between (number + 1) b.0 value b.1))
+    subst AreColours (same_ok (record o { colours = Some b.0 }) next b.2) (given_between (number + 1) b.0 value b.1))
 
 all_more : (number : ℕ) (o last : Options) (words : List (List ℕ)) → AreColours o → options_from number o words ≡ Ok last → AreColours last
-all_more number o last [] are e = subst AreColours (same_ok o last (Ok o) refl e) are
+all_more number o last [] are e = subst AreColours (same_ok o last e) are
 all_more number o last (name ∷ []) are e = one_more number o last name None are e
 all_more number o last (name ∷ value ∷ words) are e =
     let b = bound (with_option number o name (Some value)) (λ more. options_from (number + 2) more words) last e in
@@ -90,7 +93,7 @@ colours_are words w e =
     let b = bound (word_at file_named 3 a.0.1) (λ cert. options_from 4 no_options cert.1 >>= λ options. Ok (record { mill = mill_words a.0.0 options; cert = cert.0 })) w a.2 in
     let c = bound (options_from 4 no_options b.0.1) (λ options. Ok (record { mill = mill_words a.0.0 options; cert = b.0.0 })) w b.2 in
     let made : CheckWords = record { mill = mill_words a.0.0 c.0; cert = b.0.0 } in
-    subst (λ (x : CheckWords). IsBetween 1 most_colour_limit x.mill.colours) (same_ok made w (Ok made) refl c.2)
+    subst (λ (x : CheckWords). IsBetween 1 most_colour_limit x.mill.colours) (same_ok made w c.2)
     (colours_or c.0.colours (all_more 4 no_options c.0 b.0.1 tt c.1))
 
 colours_between : (words : List (List ℕ)) (w : CheckWords) → check_words words ≡ Ok w → IsBetween 1 most_colour_limit w.mill.colours

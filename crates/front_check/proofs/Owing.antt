@@ -8,7 +8,7 @@ use Rattle.mill_model.specs.Mill.{Mill, with_yard}
 use Rattle.mill_read.specs.declared.fault.TextFault.{TextFault}
 use Rattle.mill_read.specs.OrderFile.{order_file}
 use Rattle.mill_read.specs.YardFile.{yard_file}
-use Rattle.cert_rules.specs.Verdicts.{Verdict, IsVerdict, Means}
+use Rattle.cert_rules.specs.Verdicts.{Verdict, IsVerdict}
 use Rattle.cert_rules.specs.Verdicts.Verdict.{Front, NoPlan, CutOff, Bad}
 use Rattle.cert_rules.proofs.Verdicts.{verdicts_hold}
 use Rattle.front_check.specs.declared.texts.Source.{Source}

@@ -1,20 +1,19 @@
 -- A certificate that is read in pieces.
 use Rattle.std.proofs.Common.{◌≡◌, ◌⊎◌, ◌↔◌, inl, inr, ℕ, ◌+◌, ◌<◌, ◌≤◌, Bool, true, false, cond, IsTrue, List, [], ◌∷◌, ◌++◌, length, take, Option, Some, None, is_some, refl, sym, ap, ◌∙◌, subst, append_assoc, append-nil, arith}
 use Rattle.std.specs.FinMap.{get}
-use Rattle.slab_desk.specs.Desk.{Told, Files, Steps, WhereTold, HasFile, HasRead, Reads, Opens, Stays, ChangesLeft}
+use Rattle.slab_desk.specs.Desk.{Told, Files, Steps, WhereTold, HasRead, Reads, Opens, Stays, ChangesLeft}
 use Rattle.slab_desk.proofs.Steps.{steps_join, steps_weaker}
 use Rattle.slab_desk.proofs.Pieces.{opened, read_more}
 use Rattle.mill_model.specs.Mill.{Mill, IsInLimits}
 use Rattle.cert_rules.specs.States.Wanted.{All}
 use Rattle.cert_rules.specs.States.State.{Begin}
-use Rattle.cert_rules.specs.Stands.{HasFailed}
 use Rattle.cert_rules.specs.Stands.Progress.{Failed}
 use Rattle.cert_rules.specs.Verdicts.{Verdict, IsVerdict}
 use Rattle.cert_rules.specs.Verdicts.Verdict.{Bad}
 use Rattle.cert_rules.proofs.Verdicts.{one_verdict}
 use Rattle.cert_rules.proofs.Standing.{new_stands_for_nothing, running_is_no_failure, failures_stay, ends_are_right}
 use Rattle.cert_check.specs.Readings.{Reading, Stands, HasBadLine, HasLessRoom, room}
-use Rattle.front_check.specs.Owed.{most_piece, StopsSoon}
+use Rattle.front_check.specs.Owed.{most_piece}
 use Rattle.front_check.specs.Endings.{HasVerdict, ReadsToBad}
 
 -- what was read of a file, and fed to a checker: its first bad line is in the last piece, if it has come

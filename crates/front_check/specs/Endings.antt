@@ -1,5 +1,5 @@
 -- What the parts of a run answer.
-use Rattle.std.specs.Prelude.{◌≡◌, ◌≢◌, ◌⊎◌, ◌↔◌, ℕ, ◌≤◌, Bool, true, false, IsTrue, List, [], length, ⊤, Option, Some, None, Result, Ok, Err, IfErr}
+use Rattle.std.specs.Prelude.{◌≡◌, ◌≢◌, ◌⊎◌, ◌↔◌, ℕ, ◌≤◌, Bool, true, false, IsTrue, List, length, ⊤, Option, Some, None, Result, Ok, Err, IfErr}
 use Rattle.std.specs.String.{string_bytes}
 use Rattle.std.specs.FinMap.{get}
 use Rattle.slab_counter.specs.Counter.{Rose}
@@ -18,7 +18,7 @@ use Rattle.front_check.specs.Words.{MillWords, CheckWords, Parsed}
 use Rattle.front_check.specs.declared.texts.Source.{Source}
 use Rattle.front_check.specs.Texts.{long_text, fault_text}
 use Rattle.front_check.specs.Outcomes.{Owing}
-use Rattle.front_check.specs.Owed.{MayEnd, IsVerdictStatus, most_bytes, with_colours, StopsSoon}
+use Rattle.front_check.specs.Owed.{IsVerdictStatus, most_bytes, with_colours, StopsSoon}
 
 -- ---- files
 

@@ -3,7 +3,7 @@ use Rattle.front_check.specs.Words.{CheckWords}
 use Rattle.front_check.specs.Jobs.{words_of}
 use Rattle.front_check.specs.Owed.{OwesOfCheck}
 use Rattle.front_check.proofs.Owing.{never_stops}
-use Rattle.front_check.proofs.Ends.{ends_owed, ran_parsed, rest_said, rest_unclaimed, rest_of_fault, rest_parsed}
+use Rattle.front_check.proofs.Ends.{ends_owed, ran_parsed, rest_said, rest_unclaimed, rest_parsed}
 use Rattle.front_check.proofs.program.check_run.Goals as goal
 
 pub returns-in-Ok-answer-clause-ran : goal.returns-in-Ok-answer-clause-ran

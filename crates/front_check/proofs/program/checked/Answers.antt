@@ -4,7 +4,7 @@ use Rattle.front_check.specs.Words.{CheckWords}
 use Rattle.front_check.specs.Jobs.{named_check}
 use Rattle.front_check.specs.Owed.{OwesOfCheck}
 use Rattle.front_check.specs.Endings.{HasMill, HasVerdict}
-use Rattle.front_check.proofs.Owing.{owes_check, verdict_status_is}
+use Rattle.front_check.proofs.Owing.{owes_check}
 use Rattle.front_check.proofs.Telling.{told_before, told_both}
 use Rattle.front_check.proofs.Ends.{rest_read}
 use Rattle.front_check.proofs.program.checked.Goals as goal

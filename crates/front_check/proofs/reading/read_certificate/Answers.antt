@@ -1,7 +1,5 @@
-use Rattle.std.proofs.Common.{◌≡◌, ◌∙◌, ◌<◌, ◌≤◌, ℕ, List, length, take, sym, subst, arith}
+use Rattle.std.proofs.Common.{◌∙◌, ◌<◌, ◌≤◌, ℕ, length, take, sym, arith}
 use Rattle.std.proofs.lemmas.Grind.{common_steps}
-use Rattle.slab_desk.specs.Desk.{Steps, Opens, Reads}
-use Rattle.mill_model.specs.Mill.{Mill, IsInLimits}
 use Rattle.cert_check.specs.Verdicts.{said_of}
 use Rattle.front_check.specs.Owed.{most_piece}
 use Rattle.front_check.proofs.Pieces.{fed_nothing, fed_more, is_bad, room_falls, verdict_bad, verdict_whole, stops_soon, stops_at_end}

@@ -1,6 +1,5 @@
 use Rattle.std.proofs.Common.{◌≡◌, false}
 use Rattle.mill_model.specs.Mill.{IsInLimits}
-use Rattle.slab_desk.specs.Desk.{Steps}
 use Rattle.front_check.proofs.Pieces.{HasFed, room_left}
 use Rattle.front_check.proofs.reading.read_certificate.Given as goal
 

@@ -1,4 +1,4 @@
-use Rattle.std.proofs.Common.{◌∙◌, List, ℕ, map, take, drop, length, ◌-◌, string_bytes}
+use Rattle.std.proofs.Common.{◌∙◌, map, take, drop, length, ◌-◌, string_bytes}
 use Rattle.front_check.specs.Jobs.{options_of}
 use Rattle.front_check.proofs.OptionSteps.{two_first, next_option}
 use Rattle.front_check.proofs.words.read_options.Goals as goal
