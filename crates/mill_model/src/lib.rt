@@ -1,5 +1,10 @@
 //! The steel mill slab design problem (CSPLib problem 038) with a yard of surplus slabs: mills, plans, their Pareto front,
 //! and the certificates that prove one, with the laws that join these definitions.
+//!
+//! Read `numbers`, `order`, `yard` and `mill` first (what is given), then `kind`, `plan`, `sums`, `illegal` and `judge` (plans
+//! and their rules), `limits`, `ask`, `prices`, `share`, `shown`, `mark` and `steps` (what proves that no plan is better),
+//! `head`, `front`, `open_tree`, `proved` and `version` (certificates), and last `laws`. Of the definitions, read `Mill`,
+//! `Columns`, `Plans`, `Judging`, `Limits`, `Decisions`, `Prices`, `Covers`, `Trees`, `Marks` and `Fronts`, in this order.
 #![tactic(auto)]
 
 mod ask;

@@ -9,8 +9,8 @@ use Rattle.mill_model.specs.declared.limits.Limits.{Limits}
 use Rattle.mill_model.specs.Mill.{Mill, IsInLimits}
 use Rattle.mill_model.specs.Columns.{Column}
 use Rattle.mill_model.specs.Decisions.{Decision}
-use Rattle.mill_model.specs.Prices.{Prices, IsPrice, ArePrices, Refutes, HasCount, HasSigns, HasLimits, IsWorth, prices_of}
-use Rattle.price_check.specs.Exceeding.{NoneExceeds, IsExceeding}
+use Rattle.mill_model.specs.Prices.{Prices, IsPrice, ArePrices, Refutes, HasCount, HasSigns, HasLimits, IsWorth, NoneExceeds, prices_of}
+use Rattle.price_check.specs.Exceeding.{IsExceeding}
 use Rattle.price_check.specs.Asked.{IsAsked}
 use Rattle.cert_view.specs.Number.{IsWithin}
 use Rattle.price_check.proofs.Quotes.{ArePrices-from_quoted}

@@ -1,7 +1,6 @@
 //! The numbers of a leaf, kept as prices.
 ghost use Rattle.std.specs.Prelude.{◌≡◌, ◌+◌, ◌≤◌, IfOk, length};
-ghost use Rattle.mill_model.specs.Prices.{ArePrices};
-    ghost use Rattle.mill_model.specs.Prices.{prices_of};
+ghost use Rattle.mill_model.specs.Prices.{ArePrices, prices_of};
 
 use cert_view::Nums;
 use std::alloc::{AllocError, Global};
@@ -15,7 +14,7 @@ pub(crate) struct Quote {
 }
 
 impl Model for Quote {
-    ghost use Rattle.mill_model.specs.Prices.{Prices};
+    ghost use Rattle.mill_model.specs.Prices.{Prices, prices_of};
 
     ghost Value = { Prices };
 
