@@ -4,7 +4,9 @@
 //! value is a `Checker`, so nothing of them is shown by their proofs. `tree` is written and proved.
 #![tactic(auto)]
 
+mod assembly;
 mod checker;
+mod cut_reader;
 mod ending;
 mod failure;
 mod line_why;
@@ -19,6 +21,7 @@ mod verdict;
 mod whole;
 
 pub use checker::{Checker, check};
+pub use cut_reader::CutReader;
 pub use failure::Failure;
 pub use line_why::{LineWhy, OrderList};
 pub use points::Points;
