@@ -10,3 +10,4 @@ pub mod Seen
 pub mod Held
 pub mod Endings
 pub mod Building
+pub mod Cuts

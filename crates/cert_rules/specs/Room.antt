@@ -13,6 +13,7 @@ use Rattle.cert_rules.specs.States.Owner.{OfPoint, OfRest}
 use Rattle.cert_rules.specs.States.Stage.{Begins, Marked, InSpread}
 use Rattle.cert_rules.specs.States.State.{Begin, BetweenPoints, InPlan, InTree, InOpenTree, Ended}
 use Rattle.cert_view.specs.declared.line.Line.{Line}
+use Rattle.cert_view.specs.Line.{most_line}
 use Rattle.cert_view.specs.Text.{IsLine}
 use Rattle.cert_rules.specs.Rules.{AllKept}
 use Rattle.cert_rules.specs.Turns.{line_rules, line_next}
@@ -112,7 +113,7 @@ lines_left m (Ended outcome points) = 0
 
 -- at most so many bytes can still be taken before a line is bad
 abbrev pub room : Mill → Progress → ℕ
-room m (Running state count held) = 8192 * lines_left m state - length held
+room m (Running state count held) = most_line * lines_left m state - length held
 room m (Failed n broken) = 0
 
 -- ---- laws

@@ -1,3 +1,6 @@
-mod Listing
-mod PlanLines
-mod TallyLines
+pub mod Listing
+pub mod Rising
+pub mod ColourCounts
+pub mod Covering
+pub mod PlanLines
+pub mod TallyLines

@@ -17,27 +17,21 @@ rising_few low high (x ∷ xs) r h = omega (arith, r.0, rising_few (x + 1) high 
 pub too_many : (count : ℕ) (numbers : List ℤ) → count < length numbers → AreListed count 0 numbers → ⊥
 too_many count numbers h l = omega (arith, h, rising_few 0 count (orders_on numbers) l.rise (omega arith), length-map numbers index)
 
-natural_index : (n : ℤ) → pos 1 ≤ℤ n → natural n ≡ index n + 1
-natural_index (pos n) h = omega (arith, ints)
-natural_index (negsuc n) h = absurd (omega (arith, ints, h))
-
--- a number that is above those before and not above the count
-pub listed_step : (count : ℕ) (low n : ℤ) (rest : List ℤ) → pos 0 ≤ℤ low → low <ℤ n → n ≤ℤ pos count → AreListed count (natural low) (n ∷ rest) ↔ AreListed count (natural n) rest
-listed_step count (negsuc k) n rest z l h = absurd (omega (arith, ints, z))
-listed_step count (pos low) n rest z l h = (
-  λ a. record { named = a.named.1; rise = subst (λ k. Rises k count (orders_on rest)) (sym is) a.rise.2 },
-  λ a. record { named = ((omega (arith, ints, l), h), a.named); rise = (omega (arith, ints, l, is, at n l), omega (arith, ints, h, is, at n l), subst (λ k. Rises k count (orders_on rest)) is a.rise) }
+-- a number that names an order from low on
+pub listed_step : (count low : ℕ) (n : ℤ) (rest : List ℤ) → Names count n → low ≤ index n → AreListed count low (n ∷ rest) ↔ AreListed count (index n + 1) rest
+listed_step count low n rest named l = (
+  λ a. record { named = a.named.1; rise = a.rise.2 },
+  λ a. record { named = (named, a.named); rise = (l, below n named, a.rise) },
 )
   where
-    at : (n : ℤ) → pos low <ℤ n → pos (natural n) ≡ n
-    at (pos n) l = refl
-    at (negsuc n) l = absurd (omega (arith, ints, l))
+    below : (n : ℤ) → Names count n → index n < count
+    below (pos n) h = omega (arith, ints, h.0, h.1)
+    below (negsuc n) h = absurd (omega (arith, ints, h.0))
 
-    is : natural n ≡ index n + 1
-    is = natural_index n (omega (arith, ints, l))
+-- the first of listed numbers
+pub listed_first : (count low : ℕ) (n : ℤ) (rest : List ℤ) → AreListed count low (n ∷ rest) → Names count n × (low ≤ index n)
+listed_first count low n rest a = (a.named.0, a.rise.0)
 
--- a number that isn't
-pub unlisted : (count : ℕ) (low n : ℤ) (rest : List ℤ) → pos 0 ≤ℤ low → AreListed count (natural low) (n ∷ rest) → (low <ℤ n) × (n ≤ℤ pos count)
-unlisted count (negsuc k) n rest z a = absurd (omega (arith, ints, z))
-unlisted count (pos low) (negsuc n) rest z a = absurd (omega (arith, ints, a.named.0.0))
-unlisted count (pos low) (pos n) rest z a = (omega (arith, ints, a.rise.0, a.named.0.0), a.named.0.1)
+pub names_below : (count : ℕ) (n : ℤ) → Names count n → index n < count
+names_below count (pos n) h = omega (arith, ints, h.0, h.1)
+names_below count (negsuc n) h = absurd (omega (arith, ints, h.0))

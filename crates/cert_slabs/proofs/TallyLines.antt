@@ -1,13 +1,15 @@
 -- The sums over shares, and the rules that are tested by them.
-use Rattle.std.proofs.Common.{◌≡◌, ◌↔◌, ℕ, ◌+◌, ◌*◌, ◌<◌, ◌≤◌, ℤ, pos, unsigned_abs, ◌≤ℤ◌, ◌*ℤ◌, Bool, true, false, ◌||◌, cond, eqb, inl, inr, List, [], ◌∷◌, ◌++◌, drop, length, get_or, Some, refl, sym, ap, ap₂, ◌∙◌, subst, arith}
+use Rattle.std.proofs.Common.{◌≡◌, ◌↔◌, ℕ, ◌+◌, ◌*◌, ◌<◌, ◌≤◌, ℤ, pos, unsigned_abs, ◌≤ℤ◌, ◌*ℤ◌, Bool, true, false, ◌||◌, cond, eqb, inl, inr, List, [], ◌∷◌, ◌++◌, drop, length, get_or, sum, ◌^◌, Some, refl, sym, ap, ap₂, ◌∙◌, subst, arith}
 use Rattle.std.specs.List.{sum_by}
 use Rattle.std.proofs.lemmas.List.Sums.{sum_by_push}
-use Rattle.std.proofs.lemmas.Bool.{cases_Bool}
+use Rattle.std.proofs.lemmas.Bool.{cases_Bool, eqb-true, false≢true}
+use Rattle.std.proofs.Math.Nat.{mul-le-mul_left, mul-le-mul_right}
+use Rattle.cert_slabs.proofs.Rising.{sum_small}
 use Rattle.mill_model.specs.declared.kind.Kind.{Kind}
 use Rattle.mill_model.specs.declared.kind.Kind.TheVariants.{New, Old}
 use Rattle.mill_model.specs.declared.limits.Limits.{Limits}
 use Rattle.mill_model.specs.Mill.{Mill}
-use Rattle.mill_model.specs.Columns.{Column, Rises, has, is_old, loss_of}
+use Rattle.mill_model.specs.Columns.{Column, IsInStock, Rises, has, is_old, loss_of}
 use Rattle.mill_model.specs.Plans.{is_new}
 use Rattle.mill_model.specs.Limits.{AtMost}
 use Rattle.mill_model.specs.Covers.{times as times_of}
@@ -19,7 +21,7 @@ use Rattle.cert_rules.specs.Numbers.{Names, index, natural, number_at}
 use Rattle.cert_rules.specs.Slabs.{IsListed, orders_on}
 use Rattle.cert_rules.specs.Spreads.{column_of, multiplier_of, covered, used, lost, opened, OrdersWithin, SlabsWithin, CoversAll, LosesFew, OpensFew, AreNamed, share_of_new, share_of_old, cover_rules}
 use Rattle.cert_rules.proofs.Slabs.{has_below}
-use Rattle.cert_slabs.specs.Answers.{slab_rules, new_share_front, old_share_front}
+use Rattle.cert_slabs.specs.Answers.{share_of, slab_rules, new_share_front, old_share_front}
 use Rattle.cert_slabs.specs.Tallies.{Tally, IsTally, AreWithin, IsAdded, StayWithin, is_some_share}
 
 -- ---- a spread that begins
@@ -173,3 +175,42 @@ module _ (m : Mill) (d : ℤ) (shares : List Share) (t : Tally) (is : IsTally m 
 
   pub opens_few : (limits : Limits) (most : ℕ) → AtMost (Some (pos t.opened)) (times_of most limits.count) ↔ OpensFew limits most shares
   opens_few limits most = (subst (λ n. AtMost (Some (pos n)) (times_of most limits.count)) is.opened_is, subst (λ n. AtMost (Some (pos n)) (times_of most limits.count)) (sym is.opened_is))
+
+-- ---- how large the sums are
+
+pub sums_small : (d : ℕ) (covered : List ℕ) → length covered ≤ 250 → d ≤ 2 ^ 62 → AreWithin d covered → sum covered ≤ 250 * 2 ^ 62
+sums_small d covered few most within = omega (arith, sum_small (2 ^ 62) covered (λ i l. omega (arith, within i l, most)), mul-le-mul_right (2 ^ 62) few)
+
+pub stay_orders : (m : Mill) (d : ℕ) (shares : List Share) (kind : Kind) → StayWithin m d shares kind → OrdersWithin m d shares
+stay_orders m d shares (New size) h = h
+stay_orders m d shares (Old s) h = h.0
+
+pub stay_slabs : (m : Mill) (d : ℕ) (shares : List Share) (s : ℕ) → StayWithin m d shares (Old s) → SlabsWithin m d shares
+stay_slabs m d shares s h = h.1
+
+-- a share's orders are some, so that what it covers is at least its multiplier
+pub share_covers : (times : ℕ) (orders : List ℕ) → 0 < length orders → times ≤ times * length orders
+share_covers times orders some = omega (arith, mul-le-mul_left times some)
+
+pub cond_small : (b : Bool) (n : ℕ) → cond b n 0 ≤ n
+cond_small true n = omega arith
+cond_small false n = omega arith
+
+-- a surplus slab that is used within the limit has room for the share
+pub kind_fits : (m : Mill) (d : ℤ) (shares : List Share) (old : Tally) (x : ℕ) (kind : Kind) (orders : List ℕ) (most : ℕ) → IsTally m d shares old → IsInStock m kind → StayWithin m most (shares ++ share_of x kind orders ∷ []) kind → (s : ℕ) → is_old s kind ≡ true → get_or old.used s 0 + x ≤ most
+kind_fits m d shares old x (New size) orders most is stock stay s there = absurd (false≢true there)
+kind_fits m d shares old x (Old t) orders most is stock stay s there =
+    let l : s < length m.yard = omega (arith, stock, eqb-true t s there) in
+    let fit : get_or old.used s 0 + cond (eqb t s) x 0 ≤ most = slabs_fit m d shares old is x (Old t) orders most stay.1 s l in
+    subst (λ b. get_or old.used s 0 + cond b x 0 ≤ most) there fit
+
+-- and the other way round
+pub kind_stays : (m : Mill) (d : ℤ) (shares : List Share) (old : Tally) (x : ℕ) (kind : Kind) (orders : List ℕ) (most : ℕ) → IsTally m d shares old → length old.used ≡ length m.yard → AreWithin most old.used → OrdersWithin m most (shares ++ share_of x kind orders ∷ []) → ((s : ℕ) → is_old s kind ≡ true → get_or old.used s 0 + x ≤ most) → StayWithin m most (shares ++ share_of x kind orders ∷ []) kind
+kind_stays m d shares old x (New size) orders most is same within covers fits = covers
+kind_stays m d shares old x (Old t) orders most is same within covers fits = (
+  covers,
+  slabs_within m d shares old is x (Old t) orders most (λ s l. elim (cases_Bool (eqb t s)) [
+    | inl there ↦ subst (λ b. get_or old.used s 0 + cond b x 0 ≤ most) (sym there) (fits s there)
+    | inr gone ↦ subst (λ b. get_or old.used s 0 + cond b x 0 ≤ most) (sym gone) (omega (arith, within s (omega (arith, l, same))))
+  ]),
+)

@@ -111,9 +111,13 @@ impl Draft {
         if !self.are_placeable(mill, roster, numbers) {
             return Err(Why::Place);
         }
-        test_slab(mill, kind, roster.orders())?;
-        self.put(kind, roster.orders());
-        Ok(())
+        match test_slab(mill, kind, roster.orders()) {
+            Err(why) => Err(why),
+            Ok(()) => {
+                self.put(kind, roster.orders());
+                Ok(())
+            }
+        }
     }
 
     /// Tests the plan where it ends: each order lies on a slab, and the sums are these.

@@ -1,6 +1,7 @@
 //! The orders of a slab's line.
-ghost use Rattle.std.specs.Prelude.{◌≡◌, ◌≤◌, [], IfOk, drop, length, map, vec_capacity};
+ghost use Rattle.std.specs.Prelude.{◌≡◌, ◌≤◌, ◌+◌, [], IfOk, IfSome, IfNone, drop, length, map, vec_capacity};
 ghost use Rattle.std.specs.Bool.{OnTrue, OnFalse};
+ghost use Rattle.cert_rules.specs.Numbers.{Names, index};
 ghost use Rattle.cert_rules.specs.Slabs.{orders_on};
 ghost use Rattle.cert_rules.specs.Spreads.{AreNamed};
 ghost use Rattle.cert_slabs.specs.Roster.{AreListed};
@@ -58,13 +59,34 @@ impl Roster {
         ensures unnamed { OnFalse result (AreNamed mill.now (drop skip numbers.now) → ⊥) }
     {
         let count = mill.orders().len();
-        let len = numbers.len();
-        if len > skip + count {
+        if numbers.len() > skip + count {
             return false;
         }
-        numbers.copy_to(&mut self.numbers[..len]);
-        list_orders(&self.numbers[skip..len], count, &mut self.orders)
+        read_orders(numbers, skip, count, &mut self.numbers, &mut self.orders)
     }
+}
+
+// Lists the orders that stand after the first so many numbers of a line, until one doesn't rise or isn't one of so many.
+fn read_orders(
+    numbers: &Nums<'_>,
+    skip: usize,
+    count: usize,
+    spare: &mut [i64],
+    orders: &mut Vec<u16>,
+) -> bool
+    requires few { count ≤ 250 }
+    requires some { skip ≤ length numbers.now }
+    requires fit { length numbers.now ≤ skip + count }
+    requires spare { length numbers.now ≤ length spare.old }
+    requires room { 250 ≤ vec_capacity orders.old }
+    ensures listed { OnTrue result (AreListed count 0 (drop skip numbers.now)) }
+    ensures orders { OnTrue result (orders.new.items ≡ orders_on (drop skip numbers.now)) }
+    ensures unlisted { OnFalse result (AreListed count 0 (drop skip numbers.now) → ⊥) }
+    ensures room { 250 ≤ vec_capacity orders.new }
+{
+    let read = &mut spare[..numbers.len()];
+    numbers.copy_to(read);
+    list_orders(&read[skip..], count, orders)
 }
 
 // Lists the orders that numbers name, until one doesn't rise or isn't one of so many.
@@ -78,13 +100,29 @@ fn list_orders(numbers: &[i64], count: usize, orders: &mut Vec<u16>) -> bool
     ensures room { 250 ≤ vec_capacity orders.new }
 {
     orders.clear();
-    let mut low = 0;
+    let mut low: u16 = 0;
     for number in numbers {
-        if *number <= low || *number > count as i64 {
+        let Some(order) = named_order(*number, low, count) else {
             return false;
-        }
-        orders.push_reserved((*number - 1) as u16);
-        low = *number;
+        };
+        orders.push_reserved(order);
+        low = order + 1;
     }
     true
+}
+
+// The order that a number names, if it names one of so many, from one on.
+fn named_order(number: i64, low: u16, count: usize) -> Option<u16>
+    requires { count ≤ 250 }
+    ensures named { IfSome result (λ o. Names count number × (index number ≡ o) × (low ≤ o)) }
+    ensures unnamed { IfNone result (Names count number → low ≤ index number → ⊥) }
+{
+    if number < 1 || number > count as i64 {
+        return None;
+    }
+    let order = (number - 1) as u16;
+    if order < low {
+        return None;
+    }
+    Some(order)
 }

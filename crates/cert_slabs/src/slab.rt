@@ -14,11 +14,12 @@ pub fn listed_size(mill: &Mill, number: i64) -> Option<u16>
     ensures listed { IfSome result (λ size. IsListed mill.now number × (natural number ≡ size)) }
     ensures unlisted { IfNone result (¬ IsListed mill.now number) }
 {
+    let sizes = mill.sizes();
     if number < 0 || number > i64::from(MOST_WEIGHT) {
         return None;
     }
     let size = number as u16;
-    if !mill.sizes().contains(&size) {
+    if !sizes.contains(&size) {
         return None;
     }
     Some(size)

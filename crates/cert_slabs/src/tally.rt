@@ -1,7 +1,8 @@
 //! A spread while its shares are read.
-ghost use Rattle.std.specs.Prelude.{◌≡◌, ◌≢◌, Err, ◌≤◌, ◌<◌, ◌*◌, ◌+◌, ◌^◌, ◌↔◌, ◌++◌, ◌∷◌, [], ℕ, pos, ◌≤ℤ◌, true, List, IfOk, OnOk, IsTrue, IfErr, length, sum, slice_index, unsigned_abs};
+ghost use Rattle.std.specs.Prelude.{◌≡◌, ◌≢◌, Err, ◌≤◌, ◌<◌, ◌*◌, ◌+◌, ◌^◌, ◌↔◌, ◌++◌, ◌∷◌, [], ℕ, pos, ◌≤ℤ◌, true, List, IfOk, OnOk, IsTrue, IfErr, cond, eqb, length, sum, slice_index, unsigned_abs};
 ghost use Rattle.std.specs.Bool.{OnTrue};
-ghost use Rattle.mill_model.specs.Columns.{Rises, has};
+ghost use Rattle.mill_model.specs.Columns.{Rises, has, is_old};
+ghost use Rattle.mill_model.specs.Plans.{is_new};
 ghost use Rattle.mill_model.specs.Shares.{Share};
 ghost use Rattle.mill_model.specs.Limits.{AtMost};
 ghost use Rattle.mill_model.specs.Covers.{times};
@@ -94,19 +95,15 @@ impl Tally {
         ensures orders { length self.new.covered ≡ length self.old.covered }
         ensures slabs { length self.new.used ≡ length self.old.used }
     {
+        let loss = size_of(mill, kind).saturating_sub(load_of(mill, orders));
         if !cover(&mut self.covered, orders, times, self.d) {
             return false;
         }
-        match kind {
-            Kind::New(_) => self.opened += u128::from(times),
-            Kind::Old(slab) => {
-                if !use_slab(&mut self.used, slab, times, self.d) {
-                    return false;
-                }
-            }
+        if !use_kind(&mut self.used, kind, times, self.d) {
+            return false;
         }
-        let loss = size_of(mill, kind).saturating_sub(load_of(mill, orders));
-        self.lost += u128::from(times) * u128::from(loss);
+        self.opened += opened_by(kind, times);
+        self.lost += lost_by(loss, times);
         self.begun = true;
         true
     }
@@ -224,6 +221,22 @@ fn cover(covered: &mut [u64], orders: &[u16], times: u64, most: u64) -> bool
     true
 }
 
+// Uses the slab of a share so many times more, if it is a surplus slab, unless it is then used too often.
+fn use_kind(used: &mut [u64], kind: Kind, times: u64, most: u64) -> bool
+    requires stock { (s : ℕ) → kind ≡ Kind.Old s → s < length used.old }
+    requires times { times ≤ 2 ^ 62 }
+    requires most { most ≤ 2 ^ 62 }
+    requires within { AreWithin most used.old }
+    ensures fits { IsTrue result ↔ ((s : ℕ) → is_old s kind ≡ true → slice_index used.old s + times ≤ most) }
+    ensures added { OnTrue result ((s : ℕ) → s < length used.old → slice_index used.new s ≡ slice_index used.old s + cond (is_old s kind) times 0) }
+    ensures within { AreWithin most used.new }
+{
+    match kind {
+        Kind::New(_) => true,
+        Kind::Old(slab) => use_slab(used, slab, times, most),
+    }
+}
+
 // Uses a surplus slab so many times more, unless it is then used too often.
 fn use_slab(used: &mut [u64], slab: u16, times: u64, most: u64) -> bool
     requires slab { slab < length used.old }
@@ -231,7 +244,7 @@ fn use_slab(used: &mut [u64], slab: u16, times: u64, most: u64) -> bool
     requires most { most ≤ 2 ^ 62 }
     requires within { AreWithin most used.old }
     ensures fits { IsTrue result ↔ (slice_index used.old slab + times ≤ most) }
-    ensures added { OnTrue result (IsAdded used.old used.new (slab ∷ []) times) }
+    ensures added { OnTrue result ((s : ℕ) → s < length used.old → slice_index used.new s ≡ slice_index used.old s + cond (eqb slab s) times 0) }
     ensures within { AreWithin most used.new }
 {
     let place = usize::from(slab);
@@ -241,6 +254,25 @@ fn use_slab(used: &mut [u64], slab: u16, times: u64, most: u64) -> bool
     }
     used[place] = sum;
     true
+}
+
+// The multiplier of a share of a new slab, else 0.
+fn opened_by(kind: Kind, times: u64) -> u128
+    ensures { result ≡ cond (is_new kind) times 0 }
+{
+    match kind {
+        Kind::New(_) => u128::from(times),
+        Kind::Old(_) => 0,
+    }
+}
+
+// What a share loses.
+fn lost_by(loss: u32, times: u64) -> u128
+    requires { loss < 2 ^ 16 }
+    ensures value { result ≡ times * loss }
+    ensures small { result ≤ 65535 * times }
+{
+    u128::from(times) * u128::from(loss)
 }
 
 // Whether all are this number.

@@ -2,6 +2,7 @@
 use Rattle.std.specs.Prelude.{◌≡◌, ℕ, ◌<◌, List, [], ◌∷◌, ◌++◌, length}
 use Rattle.std.specs.List.{flat_map}
 use Rattle.cert_view.specs.declared.line.Line.{Line}
+use Rattle.cert_view.specs.Line.{most_line}
 use Rattle.cert_view.specs.Text.{line_text, IsLine}
 use Rattle.cert_text.specs.Certificates.{Certificate}
 use Rattle.cert_text.specs.Lines.{certificate_lines}
@@ -19,4 +20,4 @@ Spells bytes c = bytes ≡ certificate_text c
 -- a line that is read: as many numbers as its form wants, each in the range, and not too long
 pub record IsReadable (line : Line) : Type 0 where
   pub good : IsLine line
-  pub short : length (line_text line) < 8192
+  pub short : length (line_text line) < most_line

@@ -1,14 +1,14 @@
 -- What joins lines and texts.
 use Rattle.std.specs.Prelude.{◌≡◌, ℕ, ◌+◌, ◌*◌, ◌<◌, ◌≤◌, List, [], ◌∷◌, ◌++◌, Some, Ok, length}
 use Rattle.cert_view.specs.declared.line.Line.{Line}
-use Rattle.cert_view.specs.Line.{next_line, after_line}
+use Rattle.cert_view.specs.Line.{most_line, next_line, after_line}
 use Rattle.cert_view.specs.Held.{IsWhole}
 use Rattle.cert_view.specs.Text.{line_text, line_numbers, IsLine}
 
 -- the bytes begin with the text of this line and its line feed, and these bytes follow
 pub record BeginsWith (line : Line) (bytes rest : List ℕ) : Type 0 where
   pub good : IsLine line
-  pub short : length (line_text line) < 8192
+  pub short : length (line_text line) < most_line
   pub text : bytes ≡ line_text line ++ 10 ∷ rest
 
 -- bytes that begin with a line's text give that line

@@ -13,6 +13,10 @@ use Rattle.cert_view.specs.Form.{form_of}
 use Rattle.cert_view.specs.Number.{is_number, is_within, number_value}
 use Rattle.cert_view.specs.Numbers.{first_word, words_after}
 
+-- a line and its line feed are at most so many bytes
+abbrev pub most_line : ℕ
+most_line = 8192
+
 -- the line of a form with its numbers
 abbrev pub line_with : Form → List ℤ → Line
 line_with forms.Point ns = lines.Point ns
@@ -52,7 +56,7 @@ is_feed b = b == 10
 unfoldable pub next_line : List ℕ → Option (Result Line Spelling)
 next_line [] = None
 next_line (b ∷ bytes) =
-    Some (if nat_lt (position_or_len is_feed (b ∷ bytes)) (min (length (b ∷ bytes)) 8192) then line_of (before_first is_feed (b ∷ bytes)) else Err spellings.Form)
+    Some (if nat_lt (position_or_len is_feed (b ∷ bytes)) (min (length (b ∷ bytes)) most_line) then line_of (before_first is_feed (b ∷ bytes)) else Err spellings.Form)
 
 -- the bytes after the first line: none where there is no line feed
 abbrev pub after_line : List ℕ → List ℕ

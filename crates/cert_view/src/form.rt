@@ -2,7 +2,7 @@
 ghost use Rattle.std.specs.Prelude.{◌≡◌};
 ghost use Rattle.cert_view.specs.Form.{form_named, form_of, takes};
 
-/// A form of a line of a word and numbers.
+// A form of a line of a word and numbers.
 #[derive(Clone, Copy)]
 pub(crate) enum Form {
     Point,

@@ -1,7 +1,7 @@
 //! A buffer for one line, fed in pieces.
 ghost use Rattle.std.specs.Prelude.{◌≡◌, ◌+◌, ◌≤◌, ◌<◌, ◌++◌, ◌↔◌, [], length, take, IfOk, IfSome, IsNone, OnSome};
 ghost use Rattle.cert_view.specs.Held.{taken_of, IsOneLine, IsPart, IsWhole};
-ghost use Rattle.cert_view.specs.Line.{next_line};
+ghost use Rattle.cert_view.specs.Line.{most_line, next_line};
 ghost use Rattle.cert_view.specs.Text.{IsLine};
 
 use crate::line::{Line, Spelling, position_or_len, read_line};
@@ -40,7 +40,7 @@ impl LineBuf {
     /// How many bytes are held.
     pub fn held(&self) -> usize
         ensures value { result ≡ length self.now }
-        ensures within { result ≤ 8192 }
+        ensures within { result ≤ most_line }
     {
         self.len
     }
@@ -81,7 +81,7 @@ impl LineBuf {
 
 // The line that at most one line's bytes are; none where they are less than a line.
 fn line_of_held(held: &[u8]) -> Option<Result<Line<'_>, Spelling>>
-    requires within { length held.now ≤ 8192 }
+    requires within { length held.now ≤ most_line }
     requires one_line { IsOneLine held.now }
     ensures part { IsNone result ↔ IsPart held.now }
     ensures line { OnSome result (result ≡ next_line held.now) }
@@ -102,7 +102,7 @@ fn line_of_held(held: &[u8]) -> Option<Result<Line<'_>, Spelling>>
 
 // How many bytes of a piece are taken where so many are held. No more are looked at than there is room for.
 fn taken_of(held: usize, piece: &[u8]) -> usize
-    requires { held ≤ 8192 }
+    requires { held ≤ most_line }
     ensures { result ≡ taken_of held piece.now }
 {
     let most = piece.len().min(LONGEST - held);

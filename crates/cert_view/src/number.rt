@@ -6,10 +6,10 @@ ghost use Rattle.cert_view.specs.Number.{digits_value, is_number, with_digit, wi
 ghost use Rattle.cert_view.specs.Numbers.{IsSpaced, after_word, first_word};
 ghost use Rattle.cert_view.specs.Reading.{front_len, number_of, read_number};
 
-/// The greatest absolute value of a number: 2 to the 62nd.
+// The greatest absolute value of a number: 2 to the 62nd.
 const LIMIT: u64 = 1 << 62;
 
-/// A number that a word spells.
+// A number that a word spells.
 #[derive(Clone, Copy)]
 pub(crate) enum Number {
     Within(i64),

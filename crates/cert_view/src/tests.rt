@@ -3,7 +3,7 @@
 use crate::{CertView, Line, LineBuf, Nums, Spelling};
 use std::process::Abort;
 
-/// What the first line of a text is read as.
+// What the first line of a text is read as.
 #[derive(Drop)]
 enum Want {
     Line(&'static str, &'static [i64]),

@@ -6,7 +6,7 @@ ghost use Rattle.cert_view.specs.Text.{IsLine};
 use crate::line::{Line, Spelling, position_or_len, read_line};
 use std::marker::Model;
 
-/// The most bytes of a line, with its line feed.
+// The most bytes of a line, with its line feed.
 pub(crate) const LONGEST: usize = 8192;
 
 /// The lines of bytes, one after the other. It is seen as the bytes that are left.

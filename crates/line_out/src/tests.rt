@@ -9,7 +9,7 @@ fn desk(alloc: Global, failing: Vec<(Act, u32)>) -> Result<MemDesk, AllocError> 
     MemDesk::new(alloc, Vec::new(alloc), 1000, failing, 16384)
 }
 
-/// Puts 1,000 lines of 11 bytes.
+// Puts 1,000 lines of 11 bytes.
 fn put_lines(out: &mut LineOut<Said>, desk: &mut MemDesk) {
     for _ in 0..1000 {
         out.put(desk, b"point");

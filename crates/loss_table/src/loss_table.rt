@@ -26,7 +26,7 @@ impl Model for LossTable {
     ghost invariant = { λ t. IsTable t.sizes.items t.least.items };
 }
 
-/// The least size for each load from 0 to the greatest size.
+// The least size for each load from 0 to the greatest size.
 fn table_of(alloc: Global, sizes: &[u16]) -> Result<Vec<u16>, AllocError>
     ensures { IfOk result (λ table. IsTable sizes.now table.items) }
 {

@@ -3,7 +3,7 @@ use mill_model::Mill;
 use std::alloc::{AllocError, Global};
 use std::test::Fail;
 
-/// A mill of four sizes, unsorted and with one twice.
+// A mill of four sizes, unsorted and with one twice.
 fn mill_of_four_sizes(alloc: Global) -> Result<Mill, AllocError> {
     let sizes = vec![in alloc; 3, 10, 4, 10]?;
     Ok(Mill::new(sizes, 1, Vec::new(alloc)))

@@ -52,7 +52,7 @@ impl Yard {
         &self.bars
     }
 
-    /// Whether some bar is of this order and this surplus slab.
+    // Whether some bar is of this order and this surplus slab.
     pub(crate) fn is_barred(&self, order: u16, slab: u16) -> bool
         ensures { result ≡ list_any (is_bar order slab) self.now.bars }
     {

@@ -3,6 +3,9 @@
 //!
 //! A file is a list of words, parted by white space (the bytes 9 to 13 and 32). A number is a word of ASCII digits, in which
 //! leading zeros may stand.
+//!
+//! Read `words` first, then `fault`, `lists` and the files: `orders`, `yards` and `plans`. `laws` says that just the
+//! texts of the grammar are read.
 #![tactic(auto)]
 
 mod fault;

@@ -6,7 +6,7 @@ ghost use Rattle.slab_closure.specs.Relations.{relation_at, IsRelations, AreDeci
 use crate::relation::joined;
 use crate::square::Square;
 
-/// Writes how the group that two nodes make stands to each node into the row of the first.
+// Writes how the group that two nodes make stands to each node into the row of the first.
 fn join_row(square: &mut Square, a: usize, b: usize)
     requires a { a < square.old.count }
     requires b { b < square.old.count }
@@ -18,7 +18,7 @@ fn join_row(square: &mut Square, a: usize, b: usize)
     }
 }
 
-/// Lets a node stand to each as node a does, in whose row it stands as one of the group.
+// Lets a node stand to each as node a does, in whose row it stands as one of the group.
 fn copy_node(square: &mut Square, a: usize, x: usize)
     requires a { a < square.old.count }
     requires x { x < square.old.count }
@@ -32,7 +32,7 @@ fn copy_node(square: &mut Square, a: usize, x: usize)
     }
 }
 
-/// Makes the groups of two nodes one.
+// Makes the groups of two nodes one.
 pub(crate) fn join(square: &mut Square, a: usize, b: usize)
     requires a { a < square.old.count }
     requires b { b < square.old.count }

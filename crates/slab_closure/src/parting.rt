@@ -6,7 +6,7 @@ ghost use Rattle.slab_closure.specs.Relations.{relation_at, IsRelations, AreDeci
 use crate::relation::Relation;
 use crate::square::Square;
 
-/// Tells a node apart from each of the group of node b, in which it doesn't lie.
+// Tells a node apart from each of the group of node b, in which it doesn't lie.
 fn part_node(square: &mut Square, b: usize, x: usize)
     requires b { b < square.old.count }
     requires x { x < square.old.count }
@@ -21,7 +21,7 @@ fn part_node(square: &mut Square, b: usize, x: usize)
     }
 }
 
-/// Tells the groups of two nodes apart.
+// Tells the groups of two nodes apart.
 pub(crate) fn part(square: &mut Square, a: usize, b: usize)
     requires a { a < square.old.count }
     requires b { b < square.old.count }

@@ -12,7 +12,7 @@ pub enum Relation {
     Apart,
 }
 
-/// The relation of a node to the group that two groups make, from how it stands to each of the two.
+// The relation of a node to the group that two groups make, from how it stands to each of the two.
 pub(crate) fn joined(first: Relation, second: Relation) -> Relation
     ensures { result ≡ joined_of first second }
 {

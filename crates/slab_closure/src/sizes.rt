@@ -4,7 +4,7 @@ ghost use Rattle.slab_closure.specs.Relations.{relation_at};
 
 use crate::square::Square;
 
-/// Writes the size of a group for each of its nodes, of which node a is one.
+// Writes the size of a group for each of its nodes, of which node a is one.
 pub(crate) fn write_size(sizes: &mut [u16], square: &Square, a: usize, size: u16)
     requires a { a < square.now.count }
     requires each { length sizes.old ≡ square.now.count }

@@ -7,7 +7,7 @@ use crate::relation::Relation;
 use std::alloc::{AllocError, Global};
 use std::marker::Model;
 
-/// How each node stands to each other, row by row: surplus slabs, which come first, and orders.
+// How each node stands to each other, row by row: surplus slabs, which come first, and orders.
 #[derive(Drop)]
 pub(crate) struct Square {
     count: usize,
@@ -26,7 +26,7 @@ impl Model for Square {
 }
 
 impl Square {
-    /// Nodes under no decision. The only error is want of memory.
+    // Nodes under no decision. The only error is want of memory.
     pub(crate) fn new(alloc: Global, slabs: usize, orders: usize) -> Result<Square, AllocError>
         requires { slabs + orders ≤ 290 }
         ensures slabs { IfOk result (λ made. made.slabs ≡ slabs) }
@@ -45,7 +45,7 @@ impl Square {
         Ok(square)
     }
 
-    /// Takes all decisions back.
+    // Takes all decisions back.
     pub(crate) fn reset(&mut self)
         ensures slabs { self.new.slabs ≡ self.old.slabs }
         ensures count { self.new.count ≡ self.old.count }
@@ -73,7 +73,7 @@ impl Square {
         self.cells[x * self.count + y]
     }
 
-    /// Whether two nodes lie in one group.
+    // Whether two nodes lie in one group.
     pub(crate) fn in_one_group(&self, x: usize, y: usize) -> bool
         requires x { x < self.now.count }
         requires y { y < self.now.count }
@@ -91,7 +91,7 @@ impl Square {
         self.cells[place] = relation;
     }
 
-    /// Sets how two nodes stand to each other, in the row of each.
+    // Sets how two nodes stand to each other, in the row of each.
     pub(crate) fn set_pair(&mut self, x: usize, y: usize, relation: Relation)
         requires x { x < self.old.count }
         requires y { y < self.old.count }
@@ -101,14 +101,14 @@ impl Square {
         self.set(y, x, relation);
     }
 
-    /// Leaves every relation open.
+    // Leaves every relation open.
     fn open_all(&mut self)
         ensures { HasBecome self.old self.new open_table }
     {
         self.cells.fill(Relation::Open);
     }
 
-    /// Tells a surplus slab apart from each, itself too.
+    // Tells a surplus slab apart from each, itself too.
     fn part_slab(&mut self, s: usize)
         requires { s < self.old.slabs }
         ensures { HasBecome self.old self.new (with_slab_apart s self.old.slabs (relation_at self.old)) }
@@ -118,7 +118,7 @@ impl Square {
         }
     }
 
-    /// Tells the surplus slabs apart.
+    // Tells the surplus slabs apart.
     fn part_slabs(&mut self)
         ensures { HasBecome self.old self.new (with_slabs_apart self.old.slabs (relation_at self.old)) }
     {
@@ -127,7 +127,7 @@ impl Square {
         }
     }
 
-    /// Puts each node into its own group.
+    // Puts each node into its own group.
     fn join_each(&mut self)
         ensures { HasBecome self.old self.new (with_itself (relation_at self.old)) }
     {

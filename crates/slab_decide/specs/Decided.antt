@@ -3,7 +3,7 @@ use Rattle.std.specs.Prelude.{◌≡◌, ℕ, ◌<◌, ◌≤◌, ◌⊎◌, Boo
 use Rattle.std.specs.List.{AllByRecursion}
 use Rattle.mill_model.specs.declared.ask.Ask.{Ask}
 use Rattle.mill_model.specs.declared.ask.Ask.TheVariants.{Pair, Put}
-use Rattle.mill_model.specs.Mill.{Mill}
+use Rattle.mill_model.specs.Mill.{Mill, most_orders, most_slabs}
 use Rattle.mill_model.specs.Decisions.{Decision, IsAskAmong}
 use Rattle.mill_model.specs.Trees.{AreAskedOnce}
 use Rattle.mill_model.specs.Assignments.{Assignment, Agrees, Follows, AreSettled}
@@ -20,8 +20,8 @@ IsAskOf v ask = IsAskAmong v.orders v.yard ask
 
 -- what each list of decisions keeps
 pub record AreDecisions (v : Decisions) : Type 0 where
-  pub orders : v.orders ≤ 250
-  pub yard : v.yard ≤ 40
+  pub orders : v.orders ≤ most_orders
+  pub yard : v.yard ≤ most_slabs
   pub asks : AllByRecursion (λ (d : Decision). IsAskOf v d.0) v.list
   pub once : AreAskedOnce v.list
 

@@ -4,7 +4,7 @@ ghost use Rattle.slab_decide.specs.Nodes.{first_node, second_node, relation_of};
 use mill_model::Ask;
 use slab_closure::Relation;
 
-/// The two nodes that an ask is about: the surplus slabs come first, then the orders.
+// The two nodes that an ask is about: the surplus slabs come first, then the orders.
 pub(crate) fn nodes(yard: u16, ask: Ask) -> (usize, usize)
     ensures first { result.0 ≡ first_node yard ask }
     ensures second { result.1 ≡ second_node yard ask }
@@ -16,7 +16,7 @@ pub(crate) fn nodes(yard: u16, ask: Ask) -> (usize, usize)
     }
 }
 
-/// The relation that an answer demands.
+// The relation that an answer demands.
 pub(crate) fn relation_of(yes: bool) -> Relation
     ensures { result ≡ relation_of yes }
 {
@@ -33,7 +33,7 @@ fn is_decision(decision: (Ask, bool), ask: Ask, yes: bool) -> bool
     answered == yes
 }
 
-/// Whether the decision stands in the list.
+// Whether the decision stands in the list.
 pub(crate) fn stands(list: &[(Ask, bool)], ask: Ask, yes: bool) -> bool
     ensures { IsTrue result ↔ Contains list.now (ask, yes) }
 {
@@ -45,7 +45,7 @@ pub(crate) fn stands(list: &[(Ask, bool)], ask: Ask, yes: bool) -> bool
     false
 }
 
-/// Adds a decision within the room that the list has.
+// Adds a decision within the room that the list has.
 pub(crate) fn add(list: &mut Vec<(Ask, bool)>, ask: Ask, yes: bool)
     requires { vec_len list.old < vec_capacity list.old }
     ensures items { list.new.items ≡ list.old.items ++ (ask, yes) ∷ [] }

@@ -6,7 +6,7 @@ ghost use Rattle.slab_decide.specs.Whole.{has_node, IsRowWhole, IsSlabWhole, Are
 use mill_model::Kind;
 use slab_closure::{Closure, Relation};
 
-/// The kind of slab, as decisions see it: one that isn't in the yard is in none of them, as a new slab is.
+// The kind of slab, as decisions see it: one that isn't in the yard is in none of them, as a new slab is.
 pub(crate) fn known_kind(yard: u16, kind: Kind) -> Kind
     ensures known { IsSlabNode yard result }
     ensures alike { (s : ℕ) → s < yard → is_old s result ≡ is_old s kind }
@@ -17,7 +17,7 @@ pub(crate) fn known_kind(yard: u16, kind: Kind) -> Kind
     }
 }
 
-/// Whether the column's surplus slab, where it has one, isn't apart from a node.
+// Whether the column's surplus slab, where it has one, isn't apart from a node.
 fn is_slab_beside(relations: &Closure, kind: Kind, x: usize) -> bool
     requires x { x < relations.now.count }
     requires slab { IsSlabNode relations.now.count kind }
@@ -29,7 +29,7 @@ fn is_slab_beside(relations: &Closure, kind: Kind, x: usize) -> bool
     }
 }
 
-/// Whether none of the column's orders is apart from a node.
+// Whether none of the column's orders is apart from a node.
 fn are_orders_beside(relations: &Closure, yard: u16, orders: &[u16], x: usize) -> bool
     requires limit { relations.now.count ≤ 290 }
     requires x { x < relations.now.count }
@@ -44,7 +44,7 @@ fn are_orders_beside(relations: &Closure, yard: u16, orders: &[u16], x: usize) -
     true
 }
 
-/// Whether the column's surplus slab lies in the group of a node, as a number.
+// Whether the column's surplus slab lies in the group of a node, as a number.
 fn slab_in_group(relations: &Closure, kind: Kind, x: usize) -> usize
     requires x { x < relations.now.count }
     requires slab { IsSlabNode relations.now.count kind }
@@ -57,7 +57,7 @@ fn slab_in_group(relations: &Closure, kind: Kind, x: usize) -> usize
     }
 }
 
-/// How many of the column's orders lie in the group of a node.
+// How many of the column's orders lie in the group of a node.
 fn orders_in_group(relations: &Closure, yard: u16, orders: &[u16], x: usize) -> usize
     requires limit { relations.now.count ≤ 290 }
     requires x { x < relations.now.count }
@@ -74,7 +74,7 @@ fn orders_in_group(relations: &Closure, yard: u16, orders: &[u16], x: usize) -> 
     found
 }
 
-/// Whether the column has the whole group of a node, and no node that is apart from it.
+// Whether the column has the whole group of a node, and no node that is apart from it.
 fn is_row_whole(relations: &Closure, yard: u16, kind: Kind, orders: &[u16], x: usize) -> bool
     requires nodes { AreNodes relations.now.count yard kind orders.now }
     requires x { x < relations.now.count }
@@ -90,7 +90,7 @@ fn is_row_whole(relations: &Closure, yard: u16, kind: Kind, orders: &[u16], x: u
     found == usize::from(relations.group_size(x))
 }
 
-/// The same of the column's surplus slab, where it has one.
+// The same of the column's surplus slab, where it has one.
 pub(crate) fn is_slab_whole(relations: &Closure, yard: u16, kind: Kind, orders: &[u16]) -> bool
     requires { AreNodes relations.now.count yard kind orders.now }
     ensures { IsTrue result ↔ IsSlabWhole relations.now.count (relation_at relations.now) (has_node yard (record { kind = kind; orders = orders.now })) kind }
@@ -101,7 +101,7 @@ pub(crate) fn is_slab_whole(relations: &Closure, yard: u16, kind: Kind, orders: 
     }
 }
 
-/// The same of each order of the column.
+// The same of each order of the column.
 pub(crate) fn are_orders_whole(relations: &Closure, yard: u16, kind: Kind, orders: &[u16]) -> bool
     requires { AreNodes relations.now.count yard kind orders.now }
     ensures { IsTrue result ↔ AreOrdersWhole relations.now.count (relation_at relations.now) (has_node yard (record { kind = kind; orders = orders.now })) yard orders.now }

@@ -1,5 +1,6 @@
 ghost use Rattle.std.specs.Prelude.{◌≡◌, ◌<◌, ◌≤◌, ◌∷◌, [], IfOk, IfSome, IfNone, OnOk, OnErr, true, false};
 ghost use Rattle.mill_model.specs.declared.ask.Ask.{Ask};
+ghost use Rattle.mill_model.specs.Mill.{most_orders, most_slabs};
 ghost use Rattle.mill_model.specs.Columns.{Rises};
 ghost use Rattle.mill_model.specs.Decisions.{column_agrees};
 ghost use Rattle.mill_model.specs.Assignments.{Follows};
@@ -39,8 +40,8 @@ impl Model for Decisions {
 impl Decisions {
     /// No decision yet, with room for every ask, so that no later call takes memory. The only error is want of memory.
     pub fn new(alloc: Global, orders: u16, yard: u16) -> Result<Decisions, AllocError>
-        requires orders { orders ≤ 250 }
-        requires yard { yard ≤ 40 }
+        requires orders { orders ≤ most_orders }
+        requires yard { yard ≤ most_slabs }
         ensures { IfOk result (λ made. made ≡ record { orders = orders; yard = yard; list = [] }) }
     {
         let relations = Closure::new(alloc, yard as usize, orders as usize)?;

@@ -1,4 +1,7 @@
 //! Branching decisions about orders and surplus slabs, with all that follows from them.
+//!
+//! Read `decisions` first (what others call), then `clash` (what can't follow), `asks` and `open_asks` (questions without an
+//! answer) and `column` (which columns agree).
 #![tactic(auto)]
 
 mod asks;

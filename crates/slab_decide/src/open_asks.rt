@@ -5,7 +5,7 @@ ghost use Rattle.slab_decide.specs.OpenAsks.{ArePairsClosed, ArePutsClosed, IsFi
 use mill_model::Ask;
 use slab_closure::{Closure, Relation};
 
-/// The first order j above i with which i is open.
+// The first order j above i with which i is open.
 fn first_open_partner(relations: &Closure, orders: u16, yard: u16, i: u16) -> Option<u16>
     requires count { relations.now.count ≡ yard + orders }
     requires order { i < orders }
@@ -21,7 +21,7 @@ fn first_open_partner(relations: &Closure, orders: u16, yard: u16, i: u16) -> Op
     None
 }
 
-/// The first open pair of orders.
+// The first open pair of orders.
 pub(crate) fn first_open_pair(relations: &Closure, orders: u16, yard: u16) -> Option<Ask>
     requires { relations.now.count ≡ yard + orders }
     ensures some { IfSome result (IsFirstPair relations.now orders yard) }
@@ -35,7 +35,7 @@ pub(crate) fn first_open_pair(relations: &Closure, orders: u16, yard: u16) -> Op
     None
 }
 
-/// The first surplus slab with which an order is open.
+// The first surplus slab with which an order is open.
 fn first_open_slab(relations: &Closure, orders: u16, yard: u16, o: u16) -> Option<u16>
     requires count { relations.now.count ≡ yard + orders }
     requires order { o < orders }
@@ -51,7 +51,7 @@ fn first_open_slab(relations: &Closure, orders: u16, yard: u16, o: u16) -> Optio
     None
 }
 
-/// The first open put of an order on a surplus slab.
+// The first open put of an order on a surplus slab.
 pub(crate) fn first_open_put(relations: &Closure, orders: u16, yard: u16) -> Option<Ask>
     requires { relations.now.count ≡ yard + orders }
     ensures some { IfSome result (IsFirstPut relations.now orders yard) }

@@ -2,7 +2,7 @@ use crate::{Clash, Decisions};
 use mill_model::{Ask, Kind};
 use std::test::Fail;
 
-/// Three orders and one surplus slab.
+// Three orders and one surplus slab.
 #[test]
 fn decides_three_orders(rt: HostRuntime) -> Result<(), Fail> {
     let mut decisions = Decisions::new(rt.alloc(), 3, 1)?;

@@ -1,4 +1,7 @@
 //! The outside as the product sees it: files by name, standard output, and a count of faults.
+//!
+//! Read `desk` first (what every desk promises), then `calls`, `mem_file` and `mem_desk` (a desk for tests, in memory),
+//! `whole` and `reserved` (what reads and holds a whole file), and last `real_desk`.
 #![tactic(auto)]
 
 mod calls;

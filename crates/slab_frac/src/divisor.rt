@@ -3,10 +3,10 @@ ghost use Rattle.std.specs.Int.{IsGcd};
 ghost use Prim.Native.Nat.{◌∣◌};
 ghost use Rattle.slab_frac.specs.Odd.{IsOdd, IsOddPart};
 
-/// The greatest word, above which a division takes two words.
+// The greatest word, above which a division takes two words.
 pub(crate) const WORD: u128 = 0xFFFF_FFFF_FFFF_FFFF;
 
-/// How often 2 divides the number.
+// How often 2 divides the number.
 #[inline]
 fn twos(n: u64) -> u32
     requires { 0 < n }
@@ -16,8 +16,8 @@ fn twos(n: u64) -> u32
     n.trailing_zeros()
 }
 
-/// The greatest common divisor of two odd numbers. Each step takes the smaller off the greater, and the factors 2 off what is
-/// left.
+// The greatest common divisor of two odd numbers. Each step takes the smaller off the greater, and the factors 2 off what is
+// left.
 #[inline]
 fn odd_divisor(a: u64, b: u64) -> u64
     requires first { IsOdd a }
@@ -34,7 +34,7 @@ fn odd_divisor(a: u64, b: u64) -> u64
     x
 }
 
-/// The greatest common divisor of two words (the binary one of J. Stein, 1967).
+// The greatest common divisor of two words (the binary one of J. Stein, 1967).
 pub(crate) fn word_divisor(a: u64, b: u64) -> u64
     ensures { IsGcd a b result }
 {
@@ -52,7 +52,7 @@ pub(crate) fn word_divisor(a: u64, b: u64) -> u64
     odd_divisor(a >> first, b >> second) << first.min(second)
 }
 
-/// The greatest common divisor.
+// The greatest common divisor.
 pub(crate) fn wide_divisor(a: u128, b: u128) -> u128
     ensures { IsGcd a b result }
 {
@@ -70,7 +70,7 @@ pub(crate) fn wide_divisor(a: u128, b: u128) -> u128
     word_divisor(y as u64, rest as u64) as u128
 }
 
-/// The quotient, without a division where the divisor is 1.
+// The quotient, without a division where the divisor is 1.
 #[inline(always)]
 pub(crate) fn word_quotient(n: u64, divisor: u64) -> u64
     requires { 0 < divisor }
@@ -82,8 +82,8 @@ pub(crate) fn word_quotient(n: u64, divisor: u64) -> u64
     n / divisor
 }
 
-/// A common divisor of two denominators that is worth its search: themselves where they are equal, 1 where their
-/// product is a word, and else the greatest.
+// A common divisor of two denominators that is worth its search: themselves where they are equal, 1 where their
+// product is a word, and else the greatest.
 #[inline(always)]
 pub(crate) fn shared_divisor(a: u64, b: u64) -> u64
     requires { 0 < a }

@@ -28,7 +28,7 @@ impl Model for Frac {
     ghost inverse = { λ v. record { num = v.num; den = v.den } };
 }
 
-/// The product of a numerator and a denominator.
+// The product of a numerator and a denominator.
 #[inline(always)]
 pub(crate) fn cross(num: i64, den: u64) -> i128
     requires num { unsigned_abs num ≤ 2 ^ 62 }
@@ -39,7 +39,7 @@ pub(crate) fn cross(num: i64, den: u64) -> i128
     num as i128 * den as i128
 }
 
-/// The product of two numerators.
+// The product of two numerators.
 #[inline(always)]
 fn product(left: i64, right: i64) -> i128
     requires left { unsigned_abs left ≤ 2 ^ 62 }
@@ -50,7 +50,7 @@ fn product(left: i64, right: i64) -> i128
     left as i128 * right as i128
 }
 
-/// The number `n`, negated where `like` is negative.
+// The number `n`, negated where `like` is negative.
 #[inline]
 fn signed_as(like: i64, n: i128) -> i128
     requires { unsigned_abs n ≤ 2 ^ 124 }
@@ -59,7 +59,7 @@ fn signed_as(like: i64, n: i128) -> i128
     if like < 0 { -n } else { n }
 }
 
-/// The difference of two fractions that need not be in lowest terms. A result out of range is counted.
+// The difference of two fractions that need not be in lowest terms. A result out of range is counted.
 #[inline(always)]
 fn difference(num: i64, den: u64, other_num: i64, other_den: u64, wides: &mut Wides) -> Option<Frac>
     requires first { IsInRange (record { num = num; den = den }) }
@@ -78,7 +78,7 @@ fn difference(num: i64, den: u64, other_num: i64, other_den: u64, wides: &mut Wi
     reduced(left - right, common, wides)
 }
 
-/// The parts of a difference, not in lowest terms, or none where they need more than 128 bits.
+// The parts of a difference, not in lowest terms, or none where they need more than 128 bits.
 fn wide_difference(num: i64, den: u64, other_num: i128, other_den: u128) -> Option<(i128, u128)>
     requires above { 0 < den }
     requires other_above { 0 < other_den }
@@ -97,7 +97,7 @@ fn wide_difference(num: i64, den: u64, other_num: i128, other_den: u128) -> Opti
 }
 
 impl Frac {
-    /// The fraction of two parts that are known to be in lowest terms and in range.
+    // The fraction of two parts that are known to be in lowest terms and in range.
     #[inline]
     pub(crate) fn in_lowest_terms(num: i64, den: u64) -> Frac
         requires { IsKept (record { num = num; den = den }) }
@@ -205,7 +205,7 @@ impl Frac {
         self.minus_wide(num, den, wides)
     }
 
-    /// This less `num / den`, which need not be in range.
+    // This less `num / den`, which need not be in range.
     #[inline(never)]
     fn minus_wide(&self, num: i128, den: u128, wides: &mut Wides) -> Option<Frac>
         requires size { unsigned_abs num ≤ 2 ^ 124 }

@@ -1,4 +1,7 @@
 //! Exact fractions in lowest terms, with a count of the results that left their range.
+//!
+//! Read `wides` first (the count), then `divisor` and `lowest` (lowest terms), `frac` (a fraction and its arithmetic) and last
+//! `scale` (fractions over one denominator).
 #![tactic(auto)]
 
 mod divisor;

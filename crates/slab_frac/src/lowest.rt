@@ -7,10 +7,10 @@ use crate::divisor::{WORD, wide_divisor, word_divisor, word_quotient};
 use crate::frac::Frac;
 use crate::wides::Wides;
 
-/// The largest absolute value of a numerator, and the largest denominator.
+// The largest absolute value of a numerator, and the largest denominator.
 pub(crate) const LIMIT: u128 = 0x4000_0000_0000_0000;
 
-/// Two words, divided by their greatest common divisor.
+// Two words, divided by their greatest common divisor.
 #[inline(always)]
 fn lowest_words(size: u64, den: u64) -> (u64, u64)
     requires { 0 < den }
@@ -20,7 +20,7 @@ fn lowest_words(size: u64, den: u64) -> (u64, u64)
     (word_quotient(size, shared), word_quotient(den, shared))
 }
 
-/// Two numbers, divided by their greatest common divisor.
+// Two numbers, divided by their greatest common divisor.
 #[inline(always)]
 pub(crate) fn lowest(size: u128, den: u128) -> (u128, u128)
     requires { 0 < den }
@@ -34,7 +34,7 @@ pub(crate) fn lowest(size: u128, den: u128) -> (u128, u128)
     (size / shared, den / shared)
 }
 
-/// The number `size` with the sign of `like`.
+// The number `size` with the sign of `like`.
 #[inline(always)]
 pub(crate) fn signed(size: u128, like: i128) -> i64
     requires { size ≤ 2 ^ 62 }
@@ -44,7 +44,7 @@ pub(crate) fn signed(size: u128, like: i128) -> i64
     if like < 0 { -unsigned } else { unsigned }
 }
 
-/// The same in 128 bits.
+// The same in 128 bits.
 pub(crate) fn signed_wide(size: u128, like: i128) -> i128
     requires { size ≤ 2 ^ 124 }
     ensures { result ≡ signed_like like (pos size) }
@@ -53,7 +53,7 @@ pub(crate) fn signed_wide(size: u128, like: i128) -> i128
     if like < 0 { -unsigned } else { unsigned }
 }
 
-/// The fraction `num / den` in lowest terms. A result out of range is counted.
+// The fraction `num / den` in lowest terms. A result out of range is counted.
 #[inline(always)]
 pub(crate) fn reduced(num: i128, den: u128, wides: &mut Wides) -> Option<Frac>
     requires { 0 < den }

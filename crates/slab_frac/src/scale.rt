@@ -8,7 +8,7 @@ use crate::frac::{Frac, cross};
 use crate::lowest::LIMIT;
 use crate::wides::Wides;
 
-/// The least common multiple.
+// The least common multiple.
 fn least_multiple(a: u64, b: u64) -> u128
     requires { 0 < b }
     ensures { IsLeastMultiple a b result }
@@ -17,7 +17,7 @@ fn least_multiple(a: u64, b: u64) -> u128
     rest as u128 * b as u128
 }
 
-/// The least common denominator, or none where it is out of range.
+// The least common denominator, or none where it is out of range.
 fn least_denominator(list: &[Frac]) -> Option<u64>
     ensures least { IfSome result (λ d. IsLeastDenominator list.now d) }
     ensures bound { IfSome result (λ d. d ≤ 2 ^ 62) }
@@ -34,7 +34,7 @@ fn least_denominator(list: &[Frac]) -> Option<u64>
     Some(shared)
 }
 
-/// The product of the fraction and `shared`.
+// The product of the fraction and `shared`.
 fn multiple(x: &Frac, shared: u64) -> i128
     requires bound { shared ≤ 2 ^ 62 }
     requires divides { x.now.den ∣ shared }

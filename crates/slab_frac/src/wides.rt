@@ -31,7 +31,7 @@ impl Wides {
         self.raised
     }
 
-    /// Counts one more result out of range.
+    // Counts one more result out of range.
     pub(crate) fn raise(&mut self)
         ensures { self.new ≡ next_count self.old }
     {

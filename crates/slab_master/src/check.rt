@@ -11,7 +11,7 @@ use crate::given::Sense;
 use crate::problem::Problem;
 use slab_frac::{Frac, Wides, scale_all};
 
-/// What a test of an answer found.
+// What a test of an answer found.
 #[derive(Clone, Copy)]
 pub(crate) enum Tested {
     /// It holds, as the whole numbers over this denominator show.
@@ -20,14 +20,14 @@ pub(crate) enum Tested {
     Wide,
 }
 
-/// The product of two numbers.
+// The product of two numbers.
 pub(crate) fn term(number: i64, entry: i64) -> i128
     ensures { result ≡ number *ℤ entry }
 {
     number as i128 * entry as i128
 }
 
-/// The product of one number per row with a column, or none beyond 128 bits.
+// The product of one number per row with a column, or none beyond 128 bits.
 pub(crate) fn column_product(numbers: &[i64], column: &[(u16, i64)]) -> Option<i128>
     requires { All (λ e. e.0 < length numbers.now) column.now }
     ensures { IfSome result (λ z. z ≡ product_of numbers.now column.now) }
@@ -39,7 +39,7 @@ pub(crate) fn column_product(numbers: &[i64], column: &[(u16, i64)]) -> Option<i
     Some(total)
 }
 
-/// The product of one number per row with the right sides, or none beyond 128 bits.
+// The product of one number per row with the right sides, or none beyond 128 bits.
 pub(crate) fn right_total(numbers: &[i64], rows: &[(Sense, i64)]) -> Option<i128>
     requires { length numbers.now ≡ length rows.now }
     ensures { IfSome result (λ z. z ≡ right_product numbers.now rows.now) }
@@ -51,7 +51,7 @@ pub(crate) fn right_total(numbers: &[i64], rows: &[(Sense, i64)]) -> Option<i128
     Some(total)
 }
 
-/// Whether the numbers are at most 0 on the AtMost rows.
+// Whether the numbers are at most 0 on the AtMost rows.
 pub(crate) fn signs_hold(numbers: &[i64], rows: &[(Sense, i64)]) -> bool
     requires { length numbers.now ≡ length rows.now }
     ensures { IsTrue result → (i : ℕ) (row : Row) → i < length rows.now → AtMostZero (slice_index_or rows.now i row) (number_at numbers.now i) }
@@ -64,7 +64,7 @@ pub(crate) fn signs_hold(numbers: &[i64], rows: &[(Sense, i64)]) -> bool
     true
 }
 
-/// Whether the product with every column is at most 0.
+// Whether the product with every column is at most 0.
 fn products_hold(numbers: &[i64], columns: &[Vec<(u16, i64)>]) -> bool
     requires { All (λ c. All (λ e. e.0 < length numbers.now) c.items) columns.now }
     ensures { IsTrue result → All (λ c. product_of numbers.now c.items ≤ℤ pos 0) columns.now }
@@ -78,7 +78,7 @@ fn products_hold(numbers: &[i64], columns: &[Vec<(u16, i64)>]) -> bool
     true
 }
 
-/// Tests prices, one per row, against the rows and columns. `scaled` is room for a whole number per row.
+// Tests prices, one per row, against the rows and columns. `scaled` is room for a whole number per row.
 pub(crate) fn test_prices(
     problem: &Problem<'_>,
     prices: &[Frac],
@@ -103,7 +103,7 @@ pub(crate) fn test_prices(
     }
 }
 
-/// Whether no number is negative.
+// Whether no number is negative.
 fn none_negative(numbers: &[i64]) -> bool
     ensures { IsTrue result → All (λ k. pos 0 ≤ℤ k) numbers.now }
 {
@@ -115,14 +115,14 @@ fn none_negative(numbers: &[i64]) -> bool
     true
 }
 
-/// What an entry adds to its column's number in a row.
+// What an entry adds to its column's number in a row.
 fn number_in(entry: &(u16, i64), row: usize) -> i64
     ensures { result ≡ (if nat_eq entry.now.0 row then entry.now.1 else pos 0) }
 {
     if entry.0 as usize == row { entry.1 } else { 0 }
 }
 
-/// A column's number in a row, or none beyond 64 bits.
+// A column's number in a row, or none beyond 64 bits.
 fn coefficient_at(column: &[(u16, i64)], row: usize) -> Option<i64>
     ensures { IfSome result (λ z. z ≡ coefficient column.now row) }
 {
@@ -133,7 +133,7 @@ fn coefficient_at(column: &[(u16, i64)], row: usize) -> Option<i64>
     Some(total)
 }
 
-/// What a column adds to the sum of a row, or none where its number in the row needs more than 64 bits.
+// What a column adds to the sum of a row, or none where its number in the row needs more than 64 bits.
 fn part(multiplier: i64, column: &[(u16, i64)], row: usize) -> Option<i128>
     ensures { IfSome result (λ z. z ≡ multiplier *ℤ coefficient column.now row) }
 {
@@ -144,7 +144,7 @@ fn part(multiplier: i64, column: &[(u16, i64)], row: usize) -> Option<i128>
     Some(term(multiplier, number))
 }
 
-/// The sum of a row over one multiplier per column, or none beyond 128 bits.
+// The sum of a row over one multiplier per column, or none beyond 128 bits.
 fn row_total(multipliers: &[i64], columns: &[Vec<(u16, i64)>], row: usize) -> Option<i128>
     requires { length multipliers.now ≡ length columns.now }
     ensures { IfSome result (λ z. z ≡ row_sum multipliers.now (columns_of columns.now) row) }
@@ -157,7 +157,7 @@ fn row_total(multipliers: &[i64], columns: &[Vec<(u16, i64)>], row: usize) -> Op
     Some(total)
 }
 
-/// Whether a row's sum over multipliers that stand over the denominator meets its right side.
+// Whether a row's sum over multipliers that stand over the denominator meets its right side.
 fn meets(row: &(Sense, i64), total: i128, denominator: i64) -> bool
     requires { pos (unsigned_abs denominator) ≡ denominator }
     ensures { IsTrue result → Meets (unsigned_abs denominator) row.now total }
@@ -169,7 +169,7 @@ fn meets(row: &(Sense, i64), total: i128, denominator: i64) -> bool
     }
 }
 
-/// Whether every row is met by multipliers that stand over the denominator.
+// Whether every row is met by multipliers that stand over the denominator.
 fn rows_hold(
     rows: &[(Sense, i64)],
     columns: &[Vec<(u16, i64)>],
@@ -189,7 +189,7 @@ fn rows_hold(
     true
 }
 
-/// Tests multipliers, one per column, against the rows and columns. `scaled` is room for a whole number per column.
+// Tests multipliers, one per column, against the rows and columns. `scaled` is room for a whole number per column.
 pub(crate) fn test_spread(
     problem: &Problem<'_>,
     spread: &[Frac],

@@ -13,7 +13,7 @@ use crate::check::{Tested, column_product, right_total, signs_hold, term, test_s
 use crate::problem::Problem;
 use slab_frac::{Frac, Wides, scale_all};
 
-/// What multipliers cost, or none beyond 128 bits.
+// What multipliers cost, or none beyond 128 bits.
 fn cost_total(multipliers: &[i64], costs: &[i64]) -> Option<i128>
     requires { length multipliers.now ≡ length costs.now }
     ensures { IfSome result (λ z. z ≡ cost_sum multipliers.now costs.now) }
@@ -25,7 +25,7 @@ fn cost_total(multipliers: &[i64], costs: &[i64]) -> Option<i128>
     Some(total)
 }
 
-/// Whether the product with every column is at most its cost, times the denominator.
+// Whether the product with every column is at most its cost, times the denominator.
 fn costs_hold(numbers: &[i64], columns: &[Vec<(u16, i64)>], costs: &[i64], denominator: i64) -> bool
     requires within { All (λ c. All (λ e. e.0 < length numbers.now) c.items) columns.now }
     requires costs { length costs.now ≡ length columns.now }
@@ -40,7 +40,7 @@ fn costs_hold(numbers: &[i64], columns: &[Vec<(u16, i64)>], costs: &[i64], denom
     true
 }
 
-/// Tests dual prices, one per row, against the rows, columns and costs. `scaled` is room for a whole number per row.
+// Tests dual prices, one per row, against the rows, columns and costs. `scaled` is room for a whole number per row.
 fn test_duals(
     problem: &Problem<'_>,
     prices: &[Frac],
@@ -66,7 +66,7 @@ fn test_duals(
     Tested::Fails
 }
 
-/// Whether `left / denominator` and `right / other` are one number, and neither is below 0.
+// Whether `left / denominator` and `right / other` are one number, and neither is below 0.
 fn is_one_number(left: i128, denominator: i64, right: i128, other: i64) -> bool
     requires denominator { IsDenominator denominator }
     requires other { IsDenominator other }
@@ -82,7 +82,7 @@ fn is_one_number(left: i128, denominator: i64, right: i128, other: i64) -> bool
     left / below == right / other_below && left % below * other_below == right % other_below * below
 }
 
-/// Whether the prices are worth what the multipliers cost, each in whole numbers over its denominator.
+// Whether the prices are worth what the multipliers cost, each in whole numbers over its denominator.
 fn is_worth(
     problem: &Problem<'_>,
     denominator: i64,
@@ -105,7 +105,7 @@ fn is_worth(
     }
 }
 
-/// Tests multipliers and prices of least cost. `multipliers` is room for a whole number per column, `numbers` for one per row.
+// Tests multipliers and prices of least cost. `multipliers` is room for a whole number per column, `numbers` for one per row.
 pub(crate) fn test_least(
     problem: &Problem<'_>,
     x: &[Frac],

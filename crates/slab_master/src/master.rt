@@ -39,7 +39,7 @@ impl Model for Master {
     ghost invariant = { λ m. IsGiven (record { rows = m.rows.items; columns = columns_of m.columns.items }) × (vec_len m.working ≡ vec_len m.rows) × All (λ j. j < vec_len m.columns) m.likely.items };
 }
 
-/// So many empty rows.
+// So many empty rows.
 fn empty_rows(alloc: Global, count: usize) -> Result<Vec<Vec<Frac>>, AllocError>
     ensures { IfOk result (λ v. vec_len v ≡ count) }
 {
@@ -95,7 +95,7 @@ impl Master {
         self.likely.as_slice()
     }
 
-    /// Solves for a goal, and notes which columns are basic then.
+    // Solves for a goal, and notes which columns are basic then.
     fn run(
         &mut self,
         alloc: Global,

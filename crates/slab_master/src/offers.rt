@@ -12,7 +12,7 @@ use crate::search::Basis;
 use slab_frac::{Frac, Wides};
 use std::alloc::{AllocError, Global};
 
-/// So many zeros.
+// So many zeros.
 fn zeros(alloc: Global, count: usize) -> Result<Vec<i64>, AllocError>
     ensures { IfOk result (λ v. vec_len v ≡ count) }
 {
@@ -21,7 +21,7 @@ fn zeros(alloc: Global, count: usize) -> Result<Vec<i64>, AllocError>
     Ok(room)
 }
 
-/// The spread that the basis shows, if its test holds and nothing more is asked.
+// The spread that the basis shows, if its test holds and nothing more is asked.
 pub(crate) fn offer_spread(
     alloc: Global,
     problem: &Problem<'_>,
@@ -44,7 +44,7 @@ pub(crate) fn offer_spread(
     }
 }
 
-/// The prices that the basis shows, if their test holds.
+// The prices that the basis shows, if their test holds.
 pub(crate) fn offer_prices(
     alloc: Global,
     problem: &Problem<'_>,
@@ -63,7 +63,7 @@ pub(crate) fn offer_prices(
     }
 }
 
-/// The spread of least cost that the basis shows, with the prices that show it, if their test holds.
+// The spread of least cost that the basis shows, with the prices that show it, if their test holds.
 pub(crate) fn offer_least(
     alloc: Global,
     problem: &Problem<'_>,

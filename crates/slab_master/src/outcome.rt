@@ -33,7 +33,7 @@ pub enum Least {
     Stalled,
 }
 
-/// An answer whose test holds.
+// An answer whose test holds.
 #[derive(Drop)]
 pub(crate) enum Answer {
     Meets(FracList),
@@ -41,7 +41,7 @@ pub(crate) enum Answer {
     Refutes(FracList),
 }
 
-/// What one turn of a solve found.
+// What one turn of a solve found.
 #[derive(Drop)]
 pub(crate) enum Turn {
     Answers(Answer),
@@ -49,7 +49,7 @@ pub(crate) enum Turn {
     Again,
 }
 
-/// How a solve ended.
+// How a solve ended.
 #[derive(Drop)]
 pub(crate) enum Ended {
     Answered(Answer),

@@ -4,7 +4,7 @@ ghost use Rattle.slab_master.specs.Given.{AreRows, IsColumn, IsSmall};
 
 use crate::given::Sense;
 
-/// What a solve is after.
+// What a solve is after.
 #[derive(Clone, Copy, PartialEq, Eq, Debug)]
 pub(crate) enum Aim {
     /// Multipliers that meet every row: artificial variables whose sum is 0.
@@ -13,17 +13,17 @@ pub(crate) enum Aim {
     Lessen,
 }
 
-/// What a solve reads.
+// What a solve reads.
 #[derive(Clone, Copy)]
 pub(crate) struct Problem<'a> {
     pub(crate) rows: &'a [(Sense, i64)],
     pub(crate) columns: &'a [Vec<(u16, i64)>],
 
-    /// What each column costs; nothing past the end.
+    // What each column costs; nothing past the end.
     pub(crate) costs: &'a [i64],
     pub(crate) goal: Aim,
 
-    /// The columns that are likely basic.
+    // The columns that are likely basic.
     pub(crate) likely: &'a [usize],
     ghost small_rows: { AreRows rows.now },
     ghost within: { All (λ c. IsColumn (length rows.now) c.items) columns.now },

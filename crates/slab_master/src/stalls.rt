@@ -46,14 +46,14 @@ impl Stalls {
         self.pivots
     }
 
-    /// Counts one more pivot.
+    // Counts one more pivot.
     pub(crate) fn add_pivot(&mut self)
         ensures { self.new ≡ record self.old { pivots = next_count self.old.pivots } }
     {
         self.pivots = raised(self.pivots);
     }
 
-    /// Counts one more solve that gave up.
+    // Counts one more solve that gave up.
     pub(crate) fn add_stall(&mut self)
         ensures { self.new ≡ record self.old { stalls = next_count self.old.stalls } }
     {

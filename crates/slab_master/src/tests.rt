@@ -7,7 +7,7 @@ use slab_frac::{Frac, Wides};
 use std::alloc::Global;
 use std::test::Fail;
 
-/// The largest absolute value of a right side or an entry.
+// The largest absolute value of a right side or an entry.
 const SMALL: u64 = 0x100_0000_0000;
 
 fn are_rows(rows: &[(Sense, i64)]) -> bool

@@ -12,10 +12,10 @@ use crate::stalls::Stalls;
 use slab_frac::{Frac, Wides};
 use std::alloc::{AllocError, Global};
 
-/// The most pivots of one solve.
+// The most pivots of one solve.
 const PIVOTS: u32 = 20_000;
 
-/// Makes the working rows anew, with nothing preferred.
+// Makes the working rows anew, with nothing preferred.
 fn restart(
     problem: &Problem<'_>,
     working: &mut [Vec<Frac>],
@@ -31,8 +31,8 @@ fn restart(
     }
 }
 
-/// One turn: a pivot, or an answer whose test holds. Where the test of an answer fails, which exact rows never make
-/// happen, the working rows are made anew.
+// One turn: a pivot, or an answer whose test holds. Where the test of an answer fails, which exact rows never make
+// happen, the working rows are made anew.
 fn turn(
     alloc: Global,
     problem: &Problem<'_>,
@@ -58,7 +58,7 @@ fn turn(
     }
 }
 
-/// Solves the problem, from where the solve before ended.
+// Solves the problem, from where the solve before ended.
 #[tactic(auto, using(crate::proofs::PivotCounts::rose_by_more, crate::proofs::PivotCounts::rose_at_most_more, crate::proofs::PivotCounts::rose_at_most_weaker))]
 pub(crate) fn solve_over(
     alloc: Global,

@@ -1,4 +1,4 @@
-/// What is basic in a row, or enters. Of rows that are equal the least in this order leaves.
+// What is basic in a row, or enters. Of rows that are equal the least in this order leaves.
 #[derive(Clone, Copy, PartialEq, Eq, PartialOrd, Ord, Debug)]
 pub(crate) enum Basic {
     /// The artificial variable of the row. It never enters.

@@ -18,11 +18,11 @@ use slab_frac::{Frac, Wides, scale_all};
 use std::alloc::{AllocError, Global};
 use std::mem;
 
-/// After so many pivots that moved nothing, and 4 more for each row, the first column or slack whose reduced cost is below 0
-/// enters, so that no basis comes again (Bland's rule).
+// After so many pivots that moved nothing, and 4 more for each row, the first column or slack whose reduced cost is below 0
+// enters, so that no basis comes again (Bland's rule).
 const IDLE: usize = 64;
 
-/// What one step did, or what the basis shows.
+// What one step did, or what the basis shows.
 pub(crate) enum Step {
     Moved,
     Meets,
@@ -33,21 +33,21 @@ pub(crate) enum Step {
     Wide,
 }
 
-/// What may enter.
+// What may enter.
 enum Choice {
     Enters(Basic),
     Nothing,
     Wide,
 }
 
-/// The basis of the working rows. These are its inverse: a cell for the unit column of each row, and the right side. A row
-/// whose right side is negative stands with all signs turned.
+// The basis of the working rows. These are its inverse: a cell for the unit column of each row, and the right side. A row
+// whose right side is negative stands with all signs turned.
 #[derive(Drop)]
 pub(crate) struct Basis {
-    /// What is basic in each row.
+    // What is basic in each row.
     pub(crate) basics: Vec<Basic>,
 
-    /// The reduced costs of the unit columns, and less the value of the aim in the place of the right side.
+    // The reduced costs of the unit columns, and less the value of the aim in the place of the right side.
     pub(crate) reduced: Vec<Frac>,
 
     /// What the reduced costs are of.
@@ -72,7 +72,7 @@ pub(crate) struct Basis {
     stands: bool,
 }
 
-/// What a basic variable weighs in the value of an aim.
+// What a basic variable weighs in the value of an aim.
 fn weight_of(basic: Basic, aim: Aim, costs: &[i64]) -> i64
     requires { All IsSmall costs.now }
     ensures { IsSmall result }
@@ -84,8 +84,8 @@ fn weight_of(basic: Basic, aim: Aim, costs: &[i64]) -> i64
     }
 }
 
-/// Takes each working row off the reduced costs, times what is basic there weighs. None comes only where a fraction left its
-/// range.
+// Takes each working row off the reduced costs, times what is basic there weighs. None comes only where a fraction left its
+// range.
 fn take_weights(
     reduced: &mut [Frac],
     working: &[Vec<Frac>],
@@ -107,7 +107,7 @@ fn take_weights(
     Some(())
 }
 
-/// Writes the cells of a column, one for each row. None comes only where a fraction left its range.
+// Writes the cells of a column, one for each row. None comes only where a fraction left its range.
 fn fill_direction(
     direction: &mut [Frac],
     working: &[Vec<Frac>],
@@ -131,7 +131,7 @@ fn fill_direction(
     Some(())
 }
 
-/// Writes unit columns and right sides into rows of zeros, and makes the first basis of slacks and artificial variables.
+// Writes unit columns and right sides into rows of zeros, and makes the first basis of slacks and artificial variables.
 fn put_units(
     working: &mut [Vec<Frac>],
     basics: &mut Vec<Basic>,
@@ -149,7 +149,7 @@ fn put_units(
     Ok(())
 }
 
-/// What is basic in a row at the start: its slack where that isn't below 0.
+// What is basic in a row at the start: its slack where that isn't below 0.
 fn first_basic(sense: Sense, right: i64, row: usize) -> Basic {
     if sense == Sense::AtMost && right >= 0 && row <= 65535 {
         return Basic::Slack(row as u16);
@@ -158,7 +158,7 @@ fn first_basic(sense: Sense, right: i64, row: usize) -> Basic {
 }
 
 impl Basis {
-    /// The basis of no working rows.
+    // The basis of no working rows.
     pub(crate) fn new(alloc: Global) -> Basis {
         Basis {
             basics: Vec::new(alloc),
@@ -173,12 +173,12 @@ impl Basis {
         }
     }
 
-    /// Says whether the working rows stand as an answer left them.
+    // Says whether the working rows stand as an answer left them.
     pub(crate) fn set_standing(&mut self, stands: bool) {
         self.stands = stands;
     }
 
-    /// Makes the working rows anew from the rows given. None comes only where a fraction left its range.
+    // Makes the working rows anew from the rows given. None comes only where a fraction left its range.
     fn start(
         &mut self,
         problem: &Problem<'_>,
@@ -202,7 +202,7 @@ impl Basis {
         Ok(self.aim_at(Aim::Meet, problem, working, wides))
     }
 
-    /// Makes the working rows anew, with nothing preferred. None comes only where a fraction left its range.
+    // Makes the working rows anew, with nothing preferred. None comes only where a fraction left its range.
     pub(crate) fn restart(
         &mut self,
         problem: &Problem<'_>,
@@ -216,8 +216,8 @@ impl Basis {
         self.start(problem, working, wides)
     }
 
-    /// Goes on from the basis of the answer before where the working rows still stand so, else makes them anew, and preferred
-    /// columns will enter first. None comes only where a fraction left its range.
+    // Goes on from the basis of the answer before where the working rows still stand so, else makes them anew, and preferred
+    // columns will enter first. None comes only where a fraction left its range.
     pub(crate) fn begin(
         &mut self,
         problem: &Problem<'_>,
@@ -239,7 +239,7 @@ impl Basis {
         Ok(self.aim_at(Aim::Meet, problem, working, wides))
     }
 
-    /// Makes the reduced costs those of an aim. None comes only where a fraction left its range.
+    // Makes the reduced costs those of an aim. None comes only where a fraction left its range.
     fn aim_at(
         &mut self,
         aim: Aim,
@@ -262,12 +262,12 @@ impl Basis {
         )
     }
 
-    /// Whether so many pivots moved nothing that the next ones go by the order of the variables.
+    // Whether so many pivots moved nothing that the next ones go by the order of the variables.
     fn is_stuck(&self) -> bool {
         self.idle >= self.scaled.len().saturating_mul(4).saturating_add(IDLE)
     }
 
-    /// What enters, if something does.
+    // What enters, if something does.
     fn choose(&mut self, problem: &Problem<'_>, wides: &mut Wides) -> Choice
         ensures grows { wides.old ≤ wides.new }
         ensures wide { result ≡ Choice.Wide → Rose wides.old wides.new }
@@ -297,7 +297,7 @@ impl Basis {
         }
     }
 
-    /// Writes the cells of a column, and its reduced cost. None comes only where a fraction left its range.
+    // Writes the cells of a column, and its reduced cost. None comes only where a fraction left its range.
     fn direct_along(
         &mut self,
         problem: &Problem<'_>,
@@ -320,7 +320,7 @@ impl Basis {
         Some(())
     }
 
-    /// The same for what enters.
+    // The same for what enters.
     fn direct(
         &mut self,
         problem: &Problem<'_>,
@@ -344,8 +344,8 @@ impl Basis {
         }
     }
 
-    /// Makes a unit column of the entering column by the row that was taken out. None comes only where a fraction left its
-    /// range.
+    // Makes a unit column of the entering column by the row that was taken out. None comes only where a fraction left its
+    // range.
     fn eliminate(&mut self, working: &mut [Vec<Frac>], row: usize, wides: &mut Wides) -> Option<()>
         ensures grows { wides.old ≤ wides.new }
         ensures wide { IfNone result (Rose wides.old wides.new) }
@@ -360,14 +360,14 @@ impl Basis {
         subtract_multiple(&mut self.reduced, &self.taken, &cost, wides)
     }
 
-    /// Exchanges a working row with the row that was taken out.
+    // Exchanges a working row with the row that was taken out.
     fn exchange(&mut self, working: &mut [Vec<Frac>], row: usize) {
         if row < working.len() {
             mem::swap(&mut working[row], &mut self.taken);
         }
     }
 
-    /// Lets what enters take the place of what is basic in a row. None comes only where a fraction left its range.
+    // Lets what enters take the place of what is basic in a row. None comes only where a fraction left its range.
     fn pivot(
         &mut self,
         working: &mut [Vec<Frac>],
@@ -387,7 +387,7 @@ impl Basis {
         done
     }
 
-    /// One pivot with what enters.
+    // One pivot with what enters.
     fn enter(
         &mut self,
         problem: &Problem<'_>,
@@ -420,7 +420,7 @@ impl Basis {
         }
     }
 
-    /// One step toward the goal: a pivot, or what the basis shows where none is left to make.
+    // One step toward the goal: a pivot, or what the basis shows where none is left to make.
     pub(crate) fn step(
         &mut self,
         problem: &Problem<'_>,
@@ -446,7 +446,7 @@ impl Basis {
         }
     }
 
-    /// Writes the columns below `count` that are basic into the list, as far as its room goes.
+    // Writes the columns below `count` that are basic into the list, as far as its room goes.
     pub(crate) fn note(&self, count: usize, list: &mut Vec<usize>)
         ensures { All (λ j. j < count) list.new.items }
     {

@@ -8,7 +8,7 @@ use crate::given::Sense;
 use slab_frac::{Frac, Wides};
 use std::alloc::AllocError;
 
-/// The cell at a place, or 0 past the end.
+// The cell at a place, or 0 past the end.
 #[inline]
 pub(crate) fn cell_at(row: &[Frac], place: usize) -> Frac {
     if place < row.len() {
@@ -18,7 +18,7 @@ pub(crate) fn cell_at(row: &[Frac], place: usize) -> Frac {
     }
 }
 
-/// The last cell, or 0 where there is none.
+// The last cell, or 0 where there is none.
 #[inline]
 pub(crate) fn right_side(row: &[Frac]) -> Frac {
     match row.last() {
@@ -27,28 +27,28 @@ pub(crate) fn right_side(row: &[Frac]) -> Frac {
     }
 }
 
-/// A small number as a fraction, with its sign turned or not.
+// A small number as a fraction, with its sign turned or not.
 pub(crate) fn turned(n: i64, turn: bool) -> Frac
     requires { IsSmall n }
 {
     Frac::whole(if turn { -n } else { n })
 }
 
-/// Writes a cell, if it is there.
+// Writes a cell, if it is there.
 pub(crate) fn put(row: &mut [Frac], place: usize, cell: Frac) {
     if place < row.len() {
         row[place] = cell;
     }
 }
 
-/// Writes zeros into a row.
+// Writes zeros into a row.
 pub(crate) fn clear_cells(row: &mut [Frac]) {
     for cell in row.iter_mut() {
         *cell = Frac::whole(0);
     }
 }
 
-/// Writes zeros into each row, so many.
+// Writes zeros into each row, so many.
 pub(crate) fn clear_rows(rows: &mut [Vec<Frac>], width: usize) -> Result<(), AllocError> {
     for row in rows.iter_mut() {
         row.clear();
@@ -57,7 +57,7 @@ pub(crate) fn clear_rows(rows: &mut [Vec<Frac>], width: usize) -> Result<(), All
     Ok(())
 }
 
-/// Takes a multiple of another row from a row. None comes only where a fraction left its range.
+// Takes a multiple of another row from a row. None comes only where a fraction left its range.
 pub(crate) fn subtract_multiple(
     row: &mut [Frac],
     other: &[Frac],
@@ -75,7 +75,7 @@ pub(crate) fn subtract_multiple(
     Some(())
 }
 
-/// Divides a row by a number that isn't 0. None comes only where a fraction left its range.
+// Divides a row by a number that isn't 0. None comes only where a fraction left its range.
 pub(crate) fn divide_row(row: &mut [Frac], divisor: &Frac, wides: &mut Wides) -> Option<()>
     ensures grows { wides.old ≤ wides.new }
     ensures wide { IfNone result (Rose wides.old wides.new) }
@@ -91,8 +91,8 @@ pub(crate) fn divide_row(row: &mut [Frac], divisor: &Frac, wides: &mut Wides) ->
     Some(())
 }
 
-/// Takes so much of the pivot row off each row that the entering column is 0 there. None comes only where a fraction left
-/// its range.
+// Takes so much of the pivot row off each row that the entering column is 0 there. None comes only where a fraction left
+// its range.
 pub(crate) fn clear_column(
     rows: &mut [Vec<Frac>],
     pivot: &[Frac],
@@ -110,8 +110,8 @@ pub(crate) fn clear_column(
     Some(())
 }
 
-/// What a row says of a column, which is made of unit columns, added to what the row says of the column itself. None comes
-/// only where a fraction left its range.
+// What a row says of a column, which is made of unit columns, added to what the row says of the column itself. None comes
+// only where a fraction left its range.
 pub(crate) fn combined(
     own: Frac,
     cells: &[Frac],

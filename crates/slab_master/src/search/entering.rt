@@ -4,30 +4,30 @@ use crate::given::Sense;
 use crate::problem::Problem;
 use crate::search::basic::Basic;
 
-/// The reduced costs of the rows' unit columns, in whole numbers, and what the columns themselves cost in them.
+// The reduced costs of the rows' unit columns, in whole numbers, and what the columns themselves cost in them.
 #[derive(Clone, Copy)]
 pub(crate) struct Pricing<'a> {
     pub(crate) scaled: &'a [i64],
 
-    /// The costs of the columns, or none where they don't count.
+    // The costs of the columns, or none where they don't count.
     pub(crate) costs: &'a [i64],
     pub(crate) denominator: i64,
 }
 
-/// What enters, with its reduced cost, which is below 0.
+// What enters, with its reduced cost, which is below 0.
 #[derive(Clone, Copy)]
 struct Entering {
     basic: Basic,
     cost: i128,
 }
 
-/// The product of two numbers.
+// The product of two numbers.
 #[inline]
 fn term(number: i64, entry: i64) -> i128 {
     number as i128 * entry as i128
 }
 
-/// The reduced cost of a column.
+// The reduced cost of a column.
 fn reduced_cost(pricing: &Pricing<'_>, place: usize, column: &[(u16, i64)]) -> i128 {
     let mut total = match pricing.costs.get(place) {
         Some(cost) => term(*cost, pricing.denominator),
@@ -41,7 +41,7 @@ fn reduced_cost(pricing: &Pricing<'_>, place: usize, column: &[(u16, i64)]) -> i
     total
 }
 
-/// The lesser of the best so far and a candidate, if the candidate's cost is below 0.
+// The lesser of the best so far and a candidate, if the candidate's cost is below 0.
 fn lesser(best: Option<Entering>, basic: Basic, cost: i128) -> Option<Entering> {
     let bound = match &best {
         Some(found) => found.cost,
@@ -53,7 +53,7 @@ fn lesser(best: Option<Entering>, basic: Basic, cost: i128) -> Option<Entering> 
     best
 }
 
-/// The column of least cost among some places.
+// The column of least cost among some places.
 fn least_among(pricing: &Pricing<'_>, problem: &Problem<'_>, places: &[usize]) -> Option<Entering> {
     let mut best = None;
     for &place in places {
@@ -65,7 +65,7 @@ fn least_among(pricing: &Pricing<'_>, problem: &Problem<'_>, places: &[usize]) -
     best
 }
 
-/// The column of least cost, or the first whose cost is below 0.
+// The column of least cost, or the first whose cost is below 0.
 fn least_column(pricing: &Pricing<'_>, problem: &Problem<'_>, first: bool) -> Option<Entering> {
     let mut best = None;
     for (place, column) in problem.columns.iter().enumerate() {
@@ -78,7 +78,7 @@ fn least_column(pricing: &Pricing<'_>, problem: &Problem<'_>, first: bool) -> Op
     best
 }
 
-/// The best so far or the slack of least cost, or the first whose cost is below 0.
+// The best so far or the slack of least cost, or the first whose cost is below 0.
 fn least_slack(
     pricing: &Pricing<'_>,
     problem: &Problem<'_>,
@@ -99,8 +99,8 @@ fn least_slack(
     best
 }
 
-/// What enters: of the preferred columns the one of least cost, else the column or slack of least cost, or the first one
-/// whose cost is below 0.
+// What enters: of the preferred columns the one of least cost, else the column or slack of least cost, or the first one
+// whose cost is below 0.
 pub(crate) fn choose_entering(
     pricing: &Pricing<'_>,
     problem: &Problem<'_>,
@@ -116,7 +116,7 @@ pub(crate) fn choose_entering(
     least_slack(pricing, problem, first, column).map(|found| found.basic)
 }
 
-/// Turns the signs of the rows that stand turned.
+// Turns the signs of the rows that stand turned.
 pub(crate) fn turn_back(scaled: &mut [i64], rows: &[(Sense, i64)]) {
     for (number, row) in scaled.iter_mut().zip(rows) {
         if row.1 < 0 {

@@ -8,12 +8,12 @@ use crate::search::cells::{cell_at, right_side};
 use slab_frac::{Frac, Wides};
 use std::cmp::Ordering;
 
-/// A row that may leave the basis.
+// A row that may leave the basis.
 #[derive(Clone, Copy)]
 pub(crate) struct Leaver {
     pub(crate) row: usize,
 
-    /// How far the entering column can grow.
+    // How far the entering column can grow.
     pub(crate) ratio: Frac,
 
     /// How many cells of the row aren't 0, where that counts.
@@ -23,19 +23,19 @@ pub(crate) struct Leaver {
     basic: Basic,
 }
 
-/// What bounds the entering column.
+// What bounds the entering column.
 pub(crate) enum Leaving {
     Row(Leaver),
     Wide,
     Unbounded,
 }
 
-/// How many cells aren't 0.
+// How many cells aren't 0.
 fn count_filled(cells: &[Frac]) -> usize {
     cells.iter().filter(|cell| cell.num() != 0).count()
 }
 
-/// Whether a row of this ratio may leave before the best one so far.
+// Whether a row of this ratio may leave before the best one so far.
 fn may_leave(ratio: &Frac, best: &Option<Leaver>) -> bool {
     match best {
         None => true,
@@ -43,8 +43,8 @@ fn may_leave(ratio: &Frac, best: &Option<Leaver>) -> bool {
     }
 }
 
-/// Whether a candidate leaves before the best one so far: by its ratio, then by how few of its cells are filled, so that the
-/// rows stay sparse, then by what is basic.
+// Whether a candidate leaves before the best one so far: by its ratio, then by how few of its cells are filled, so that the
+// rows stay sparse, then by what is basic.
 fn leaves_before(candidate: &Leaver, best: &Option<Leaver>) -> bool {
     match best {
         None => true,
@@ -56,15 +56,15 @@ fn leaves_before(candidate: &Leaver, best: &Option<Leaver>) -> bool {
     }
 }
 
-/// Whether a row with this cell in the entering column bounds it. An artificial variable that has to stay 0 bounds it also
-/// from above.
+// Whether a row with this cell in the entering column bounds it. An artificial variable that has to stay 0 bounds it also
+// from above.
 fn bounds(cell: &Frac, basic: Basic, pinned: bool) -> bool
     ensures { IsTrue result → cell.now.num ≢ pos 0 }
 {
     cell.num() > 0 || (pinned && basic == Basic::Artificial && cell.num() < 0)
 }
 
-/// The row that leaves. Artificial variables that are `pinned` stay 0. Where the search is `stuck`, filled cells don't count.
+// The row that leaves. Artificial variables that are `pinned` stay 0. Where the search is `stuck`, filled cells don't count.
 pub(crate) fn leaving_row(
     rows: &[Vec<Frac>],
     basis: &[Basic],

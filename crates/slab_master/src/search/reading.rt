@@ -10,7 +10,7 @@ use slab_frac::{Frac, Wides};
 use std::alloc::{AllocError, Global};
 
 impl Basis {
-    /// The multipliers of so many given columns: the right sides of the rows in which they are basic.
+    // The multipliers of so many given columns: the right sides of the rows in which they are basic.
     pub(crate) fn spread(
         &self,
         alloc: Global,
@@ -29,7 +29,7 @@ impl Basis {
         Ok(spread)
     }
 
-    /// The prices of the rows: the reduced costs of the unit columns, with the sign turned where the row's isn't.
+    // The prices of the rows: the reduced costs of the unit columns, with the sign turned where the row's isn't.
     pub(crate) fn prices(
         &self,
         alloc: Global,

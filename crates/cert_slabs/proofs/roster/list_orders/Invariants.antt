@@ -1,5 +1,4 @@
-use Rattle.std.proofs.Common.{◌≡◌, ◌↔◌, ◌≤◌, pos, ◌≤ℤ◌, take, drop, vec_capacity}
-use Rattle.cert_rules.specs.Numbers.{natural}
+use Rattle.std.proofs.Common.{◌≡◌, ◌↔◌, ◌≤◌, take, drop, vec_capacity}
 use Rattle.cert_rules.specs.Slabs.{orders_on}
 use Rattle.cert_slabs.specs.Roster.{AreListed}
 use Rattle.cert_slabs.proofs.roster.list_orders.Given as goal
@@ -8,6 +7,6 @@ abbrev pub invariant-loop-number : goal.invariant-loop-number
 invariant-loop-number l = record {
   orders : l.orders.items ≡ orders_on (take l.number-index l.numbers);
   room : 250 ≤ vec_capacity l.orders;
-  low : pos 0 ≤ℤ l.low;
-  rest : AreListed l.count 0 l.numbers ↔ AreListed l.count (natural l.low) (drop l.number-index l.numbers);
+  low : l.low ≤ 250;
+  rest : AreListed l.count 0 l.numbers ↔ AreListed l.count l.low (drop l.number-index l.numbers);
 }
