@@ -63,7 +63,8 @@ fn solve_master(
             }
             3 => {
                 told.number();
-                solved.note(master.solve(alloc, &mut solved.wides, &mut solved.stalls)?);
+                let outcome = master.solve(alloc, &mut solved.wides, &mut solved.stalls)?;
+                solved.note(outcome);
             }
             5 => skip_hint(told),
             step => return Ok(step),
