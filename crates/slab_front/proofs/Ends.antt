@@ -92,20 +92,6 @@ ends_memory owes result a b c read end = elim end.status [
     says_after : (x y z : Told) → ChangesLeft x y → BeginsToSay (saying memory_text) y z → BeginsToSay (saying memory_text) x z
     says_after x y z p (front, back, whole, q) = (front, back, whole, given_after (saying front) x y z p q)
 
--- a fault while files were read
-pub ends_fault : (owes : Files → Owing) (a b : Option Told) → Steps a b ChangesLeft → Steps a b (Ran owes 5)
-ends_fault owes None None read = tt
-ends_fault owes None (Some y) read = read
-ends_fault owes (Some x) None read = read
-ends_fault owes (Some x) (Some y) read = record {
-  fault = λ _. inl (given_after (saying []) x y y read (nothing_given y));
-  memory = λ is. cc;
-  owed = λ not _. absurd (not refl);
-}
-  where
-    nothing_given : (y : Told) → SaysOnly [] y y
-    nothing_given y = search rules
-
 -- what a job owes is what its words owe
 pub ran_parsed : (parsed : Parsed Command) (command : Command) (was is : Tally) (a b : Option Told) (result : ℕ) → parsed ≡ Ok command
     → Steps a b (Ran (OwesOfCommand command was is) result) → Steps a b (Ran (OwesOfWords parsed was is) result)

@@ -204,13 +204,6 @@ found_from m limit was is old new head swept opened bare eo eh e1 e2 limits fits
     (subst (λ (n : Counts). OpensFew m n new) eo opens)
     (subst (λ (n : Counts). HaveCauses n.bare was new.bare is) eo causes) among))
 
--- a front that a sweep gave has a point
-pub has_point_from : (m : Mill) (limit : ℕ) (was is : Tally) (old new : Counts) (head : List Point) (swept : Swept)
-    → IsSwept (Some first_fit) m head old new was is swept → HasPointIfWhole swept
-has_point_from m limit was is old new head (Complete front) (whole, bares) = whole.some
-has_point_from m limit was is old new head (NoPlan last) given = tt
-has_point_from m limit was is old new head (Budget points rest) given = tt
-
 -- a made mill has a front
 pub made_found : (orders seed limit : ℕ) (was is : Tally) (m : Mill) (s : Searched) → m ≡ made_mill orders seed
     → IsSearched m [] limit was is (status_of s) s → (status_of s ≡ 0) × FindsFront (made_mill orders seed) [] limit was is s

@@ -2,10 +2,6 @@ use Rattle.std.proofs.Common.{◌≡◌, ℕ, List, length, ap, sym, subst, ◌�
 use Rattle.mill_model.specs.Decisions.{Decision}
 use Rattle.mill_model.specs.Prices.{Prices, HasCount, HasSigns, HasLimits, IsWorth, NoneExceeds, prices_of}
 use Rattle.price_check.specs.Path.{Path}
-<<<<<<< HEAD
-=======
-use Rattle.mill_model.specs.Prices.{NoneExceeds}
->>>>>>> 2089236cf8c9291a37a3d3d8f827169ad730e7c2
 use Rattle.price_check.proofs.Options.{none_at}
 use Rattle.price_check.proofs.LeafRules.{refutes_from, found_exceeds, ArePrices-from_numbers}
 use Rattle.price_check.proofs.path.Path.leaf_ok.Goals as goal
