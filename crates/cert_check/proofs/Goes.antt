@@ -1,5 +1,5 @@
 -- What becomes of what is kept, line by line.
-use Rattle.std.proofs.Common.{◌≡◌, ◌⊎◌, ℕ, ◌<◌, ℤ, pos, ◌≤ℤ◌, unsigned_abs, Bool, true, false, inl, inr, List, [], ◌∷◌, ◌++◌, length, reverse, Option, Some, None, refl, sym, ap, ap₂, ◌∙◌, subst}
+use Rattle.std.proofs.Common.{◌≡◌, ◌⊎◌, ℕ, ◌<◌, ℤ, pos, ◌≤ℤ◌, unsigned_abs, Bool, true, false, inl, inr, List, [], ◌∷◌, ◌++◌, length, reverse, Option, Some, None, Result, Ok, Err, refl, sym, ap, ap₂, ◌∙◌, subst}
 use Rattle.mill_model.specs.declared.sums.Sums.{Sums}
 use Rattle.mill_model.specs.declared.version.Version.{Version}
 use Rattle.mill_model.specs.declared.version.Version.TheVariants.{One, Two}
@@ -33,7 +33,7 @@ use Rattle.cert_check.specs.declared.phase.Phase.TheVariants as phases
 use Rattle.cert_check.specs.Kept.{Kept, Keeps, is_rest, owner_of}
 use Rattle.cert_check.specs.Lines.{can_begin, IsNoSlab, IsNoLeaf, IsNoShare, IsNoOpen, is_ask, IsAsked, IsNotAsked}
 use Rattle.cert_check.specs.Verdicts.{path_of}
-use Rattle.cert_check.specs.Readings.{Machine, GoesOn, IsRefused}
+use Rattle.cert_check.specs.Readings.{Machine, GoesOn, IsRefused, IsTurn}
 use Rattle.cert_check.proofs.States.{goal_of, begin_state, between_state, IsPlanState, plan_state, tree_state, question_state, IsSpreadState, spread_state, open_state, proved_state, unfinished_state}
 
 -- ---- the state of a phase
@@ -279,9 +279,10 @@ module _ (old mid new : Machine) (line : Line) (at : old.kept.phase ≡ phases.P
         let g = goes (InTree (goal_at state s) Begins []) (mid_keeps state s) in
         let kept : AllKept (rules_of (start_at state s)) = subst (λ m. AllKept (rules_of (turn_at_start m (goal_at state s) old.kept.version [] line))) mill g.0 in
         let keeps : Keeps old.mill new.kept (next_of (InTree (goal_at state s) Begins []) (start_at state s)) = subst (λ m. Keeps m new.kept (next_of (InTree (goal_at state s) Begins []) (turn_at_start m (goal_at state s) old.kept.version [] line))) mill g.1 in
-        let both = with_back (plan_rules old.mill s.sums s.slabs) (start_at state s) (planned s.before s.sums s.slabs s.points s.draft) kept in
-        (subst (λ t. AllKept (rules_of t)) (sym (turn_is state s)) both.0,
-         subst (λ t. Keeps old.mill new.kept (next_of state t)) (sym (turn_is state s)) (subst (λ x. Keeps old.mill new.kept x) (sym (both.1 state (InTree (goal_at state s) Begins []))) keeps))
+        let both = with_back (plan_rules old.mill s.sums s.slabs) (start_at state s) (planned s.before s.sums s.slabs s.points s.draft) kept in (
+          subst (λ t. AllKept (rules_of t)) (sym (turn_is state s)) both.0,
+          subst (λ t. Keeps old.mill new.kept (next_of state t)) (sym (turn_is state s)) (subst (λ x. Keeps old.mill new.kept x) (sym (both.1 state (InTree (goal_at state s) Begins []))) keeps),
+        )
 
     pub plan_then_refused : (broken : Why) → IsRefused mid line broken → IsRefused old line broken
     plan_then_refused broken refused state h =
@@ -289,6 +290,10 @@ module _ (old mid new : Machine) (line : Line) (at : old.kept.phase ≡ phases.P
         let g = refused (InTree (goal_at state s) Begins []) (mid_keeps state s) in
         let first : FirstBroken (rules_of (start_at state s)) broken = subst (λ m. FirstBroken (rules_of (turn_at_start m (goal_at state s) old.kept.version [] line)) broken) mill g in
         subst (λ t. FirstBroken (rules_of t) broken) (sym (turn_is state s)) (after_broken (plan_rules old.mill s.sums s.slabs) (start_at state s) broken (planned s.before s.sums s.slabs s.points s.draft) first)
+
+    pub plan_turned : (r : Result (Unit {0}) Why) → IsTurn mid new line r → IsTurn old new line r
+    plan_turned (Ok done) turned = plan_goes turned
+    plan_turned (Err broken) refused = plan_then_refused broken refused
 
 -- ---- questions
 
@@ -547,11 +552,11 @@ module _ (old new : Machine) (rest : Bool) (at : old.kept.phase ≡ phases.Sprea
         here (s ∷ shares) t = let e : true ≡ false = sym t.begun ∙ none in cc
 
     pub spread_no_ask : is_ask line ≡ false → IsRefused old line why.Expect
-    spread_no_ask no = unexpected_after (λ shares t. here shares)
+    spread_no_ask plain = unexpected_after (λ shares t. here shares)
       where
         here : (shares : List Share) → turn_after_shares old.mill spread_goal d shares old.kept.path line ≡ Refused
         here [] = refl
-        here (s ∷ shares) = no_ask old.mill (InTree spread_goal Begins) (cover_rules old.mill (tree_limits spread_goal) (unsigned_abs d) (s ∷ shares)) old.kept.path line no
+        here (s ∷ shares) = no_ask old.mill (InTree spread_goal Begins) (cover_rules old.mill (tree_limits spread_goal) (unsigned_abs d) (s ∷ shares)) old.kept.path line plain
 
     module _ (begun : old.kept.tally.begun ≡ true) (asks : is_ask line ≡ true) where
       abbrev asking : Turn
@@ -572,9 +577,10 @@ module _ (old new : Machine) (rest : Bool) (at : old.kept.phase ≡ phases.Sprea
         covered_goes asked keeps state h =
             let s = spread state h in
             let both = with_back (cover_rules old.mill (tree_limits spread_goal) (unsigned_abs d) s.shares) asking (covers s.shares s.tally) (asked.kept (InTree spread_goal Begins)) in
-            let is : turn old.mill old.wanted state line ≡ with_rules (cover_rules old.mill (tree_limits spread_goal) (unsigned_abs d) s.shares) asking = ap (λ x. turn old.mill old.wanted x line) s.is ∙ asked_after s.shares s.tally in
-            (subst (λ t. AllKept (rules_of t)) (sym is) both.0,
-             subst (λ t. Keeps old.mill new.kept (next_of state t)) (sym is) (subst (λ x. Keeps old.mill new.kept x) (sym (both.1 state state ∙ asked.next_is (InTree spread_goal Begins) state)) keeps))
+            let is : turn old.mill old.wanted state line ≡ with_rules (cover_rules old.mill (tree_limits spread_goal) (unsigned_abs d) s.shares) asking = ap (λ x. turn old.mill old.wanted x line) s.is ∙ asked_after s.shares s.tally in (
+              subst (λ t. AllKept (rules_of t)) (sym is) both.0,
+              subst (λ t. Keeps old.mill new.kept (next_of state t)) (sym is) (subst (λ x. Keeps old.mill new.kept x) (sym (both.1 state state ∙ asked.next_is (InTree spread_goal Begins) state)) keeps),
+            )
 
 -- ---- in the open tree
 

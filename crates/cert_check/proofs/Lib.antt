@@ -1,4 +1,7 @@
-mod States
-mod Goes
+pub mod States
+pub mod Goes
 pub mod Readings
 pub mod HeldLines
+pub mod Taking
+pub mod Ends
+pub mod Checked

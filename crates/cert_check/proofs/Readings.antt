@@ -1,5 +1,5 @@
 -- What a reader stands for: a line more, and what it says at the end.
-use Rattle.std.proofs.Common.{◌≡◌, ◌⊎◌, ℕ, zero, suc, ◌+◌, ◌-◌, ◌*◌, ◌<◌, ◌≤◌, ℤ, unsigned_abs, Bool, true, false, cond, List, [], ◌∷◌, ◌++◌, length, reverse, get_or, Option, Some, None, Result, Ok, Err, refl, sym, ap, ap₂, ◌∙◌, subst, arith, inl, inr}
+use Rattle.std.proofs.Common.{◌≡◌, ◌↔◌, ◌⊎◌, ℕ, zero, suc, ◌+◌, ◌-◌, ◌*◌, ◌<◌, ◌≤◌, ℤ, unsigned_abs, Bool, true, false, cond, List, [], ◌∷◌, ◌++◌, length, reverse, get_or, Option, Some, None, Result, Ok, Err, refl, sym, ap, ap₂, ◌∙◌, subst, arith, inl, inr}
 use Rattle.std.specs.List.{list_any}
 use Rattle.std.proofs.lemmas.List.{reverse-reverse}
 use Rattle.mill_model.specs.declared.sums.Sums.{Sums}
@@ -30,7 +30,12 @@ use Rattle.cert_rules.proofs.Verdicts.{ends_are_verdicts}
 use Rattle.cert_check.specs.declared.phase.Phase.{Phase}
 use Rattle.cert_check.specs.declared.phase.Phase.TheVariants as phases
 use Rattle.cert_check.specs.Kept.{Kept, Keeps, IsStage, is_rest}
-use Rattle.cert_check.specs.Readings.{Reading, Runs, phase_room, tree_room}
+use Rattle.cert_check.specs.declared.failure.Failure.{Failure}
+use Rattle.cert_check.specs.Whys.{why_of}
+use Rattle.cert_check.specs.Readings.{Reading, Runs, Stands, StandsBy, HasBadLine, phase_room, tree_room}
+use Rattle.std.specs.Bool.{IsTrue}
+use Rattle.std.specs.Option.{is_some}
+use Rattle.std.proofs.lemmas.Bool.{false≢true}
 use Rattle.cert_check.proofs.States.{proved_state, unfinished_state}
 
 -- ---- phases and states
@@ -88,6 +93,14 @@ module _ (m : Mill) (bytes : List ℕ) (r : Reading) (same : r.mill ≡ m) (limi
 
 pub runs_has_no_bad_line : (wanted : Wanted) (r : Reading) (bytes : List ℕ) (n : ℕ) (broken : Why) → Runs wanted r bytes → HasFailed r.mill wanted bytes n broken → ⊥
 runs_has_no_bad_line wanted r bytes n broken h k = running_is_no_failure r.mill wanted bytes r.held h.state r.count n broken h.running k
+
+failed_by : (r : Reading) (bytes : List ℕ) (failed : Option Failure) → StandsBy r.wanted r failed bytes → IsTrue (is_some failed) ↔ HasBadLine r.wanted r.mill bytes
+failed_by r bytes None h = (λ e. absurd (false≢true e), λ bad. absurd (runs_has_no_bad_line r.wanted r bytes bad.0 bad.1 h bad.2))
+failed_by r bytes (Some failure) h = (λ e. (failure.line, why_of failure.why, h.failed), λ bad. refl)
+
+-- a reader has failed exactly where a line is bad
+pub failed_exact : (r : Reading) (bytes : List ℕ) → Stands r bytes → IsTrue (is_some r.failed) ↔ HasBadLine r.wanted r.mill bytes
+failed_exact r bytes h = failed_by r bytes r.failed h
 
 -- ---- pieces
 

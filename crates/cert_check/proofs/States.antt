@@ -21,6 +21,9 @@ use Rattle.cert_check.specs.Kept.{Kept, Keeps, is_rest, owner_of}
 abbrev pub goal_of : Kept → Bool → Goal
 goal_of k rest = record { version = k.version; owner = owner_of rest; points = reverse k.points }
 
+abbrev goal_with : Version → Owner → List Sums → Goal
+goal_with version owner points = record { version = version; owner = owner; points = points }
+
 owner_is : (owner : Owner) (rest : Bool) → is_rest owner ≡ rest → owner ≡ owner_of rest
 owner_is OfPoint false e = refl
 owner_is OfPoint true e = cc
@@ -29,7 +32,7 @@ owner_is OfRest false e = cc
 
 module _ (m : Mill) (k : Kept) where
   goal_is : (goal : Goal) (rest : Bool) → k.version ≡ goal.version → reverse k.points ≡ goal.points → is_rest goal.owner ≡ rest → goal ≡ goal_of k rest
-  goal_is goal rest v p e = cc (owner_is goal.owner rest e)
+  goal_is goal rest v p e = ap (λ x. goal_with x goal.owner goal.points) (sym v) ∙ ap (λ x. goal_with k.version x goal.points) (owner_is goal.owner rest e) ∙ ap (λ x. goal_with k.version (owner_of rest) x) (sym p)
 
   -- before the first line
   pub begin_state : (state : State) → Keeps m k state → k.phase ≡ phases.Begin → (state ≡ Begin) × (k.points ≡ []) × (k.path ≡ [])

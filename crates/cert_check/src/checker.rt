@@ -21,6 +21,7 @@ pub struct Checker<'m> {
 }
 
 impl<'m> Model for Checker<'m> {
+    ghost use Rattle.std.specs.Prelude.{◌≡◌};
     ghost use Rattle.cert_rules.specs.States.Wanted.{All};
     ghost use Rattle.cert_check.specs.Readings.{Reading};
 

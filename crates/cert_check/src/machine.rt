@@ -9,13 +9,13 @@ ghost use Rattle.cert_view.specs.Text.{IsLine};
 ghost use Rattle.cert_rules.specs.States.State.{Begin};
 ghost use Rattle.cert_check.specs.declared.phase.Phase.TheVariants as phases;
 ghost use Rattle.cert_check.specs.Kept.{Keeps};
-ghost use Rattle.cert_check.specs.Lines.{IsNoSlab, IsNoLeaf, IsNoShare};
+ghost use Rattle.cert_check.specs.Lines.{IsNoSlab, IsNoLeaf, IsNoShare, IsNoOpen};
 ghost use Rattle.cert_check.specs.Readings.{HasFound, IsTurn, IsSameReader, wanted_of};
 
 use crate::ending::Ending;
 use crate::phase::Phase;
-use crate::staircase::Staircase;
 use crate::spread::{new_share, old_share};
+use crate::staircase::Staircase;
 use crate::tree::{ask_line, can_begin, is_ask, leaf_line};
 use cert_rules::Why;
 use cert_slabs::{Draft, Roster, Tally};
@@ -75,7 +75,7 @@ impl<'m> Machine<'m> {
 
     // How the text has ended, with the points.
     pub(crate) fn into_ending(self) -> Ending
-        requires { IsOver (seen self.entry).kept.phase }
+        requires { IsOver (seen self).kept.phase }
         ensures ending { IsEndingOf (seen self.entry).kept result }
         ensures limits { IsInLimits (seen self.entry).mill }
     {
@@ -225,9 +225,25 @@ impl<'m> Machine<'m> {
         match line {
             Line::Leaf(numbers) => self.leaf(rest, numbers),
             _ => match self.version {
-                Version::One => ask_line(self.mill, &mut self.path, line),
+                Version::One => self.unmarked(rest, line),
                 Version::Two => self.mark(rest, line),
             },
+        }
+    }
+
+    // A question where nothing is marked.
+    fn unmarked(&mut self, rest: bool, line: &Line<'_>) -> Result<(), Why>
+        requires phase { self.old.phase ≡ phases.Tree rest }
+        requires version { self.old.version ≡ Version.One }
+        requires line { IsLine line.now }
+        requires other { IsNoLeaf line.now }
+        ensures turn { IsTurn (seen self.old) (seen self.new) line.now result }
+        ensures same { IsSameReader (seen self.old) (seen self.new) }
+        ensures column { result ≡ Err Why.Column → HasFound (seen self.old) (seen self.new) line.now }
+    {
+        match ask_line(self.mill, &mut self.path, line) {
+            Err(why) => Err(why),
+            Ok(()) => Ok(()),
         }
     }
 
@@ -307,10 +323,22 @@ impl<'m> Machine<'m> {
     {
         match line {
             Line::CNew(numbers) => {
-                new_share(self.mill, &self.path, &mut self.tally, &mut self.roster, numbers)
+                new_share(
+                    self.mill,
+                    &self.path,
+                    &mut self.tally,
+                    &mut self.roster,
+                    numbers,
+                )
             }
             Line::COld(numbers) => {
-                old_share(self.mill, &self.path, &mut self.tally, &mut self.roster, numbers)
+                old_share(
+                    self.mill,
+                    &self.path,
+                    &mut self.tally,
+                    &mut self.roster,
+                    numbers,
+                )
             }
             _ => self.end_spread(rest, line),
         }
@@ -356,7 +384,22 @@ impl<'m> Machine<'m> {
                 }
                 Ok(())
             }
-            _ => ask_line(self.mill, &mut self.path, line),
+            _ => self.open_question(line),
+        }
+    }
+
+    // A question of the open tree.
+    fn open_question(&mut self, line: &Line<'_>) -> Result<(), Why>
+        requires phase { self.old.phase ≡ phases.Open }
+        requires line { IsLine line.now }
+        requires other { IsNoOpen line.now }
+        ensures turn { IsTurn (seen self.old) (seen self.new) line.now result }
+        ensures same { IsSameReader (seen self.old) (seen self.new) }
+        ensures column { result ≡ Err Why.Column → HasFound (seen self.old) (seen self.new) line.now }
+    {
+        match ask_line(self.mill, &mut self.path, line) {
+            Err(why) => Err(why),
+            Ok(()) => Ok(()),
         }
     }
 }

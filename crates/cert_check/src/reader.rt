@@ -1,9 +1,10 @@
 //! Bytes in pieces, line by line.
-ghost use Rattle.std.specs.Prelude.{◌≡◌, ◌<◌, ◌≤◌, ◌↔◌, ◌++◌, [], ℕ, List, Err, IfErr, IfOk, IsTrue, None, is_some, length, take, vec_capacity};
+ghost use Rattle.std.specs.Prelude.{◌≡◌, ◌<◌, ◌≤◌, ◌↔◌, ◌++◌, [], ℕ, List, Err, IfErr, IfOk, OnOk, IsTrue, None, is_some, length, take, vec_capacity, if◌then◌else◌};
 ghost use Rattle.cert_view.specs.Held.{IsPart};
+ghost use Rattle.cert_view.specs.Line.{next_line};
 ghost use Rattle.cert_rules.specs.Reading.{number_after};
 ghost use Rattle.cert_check.specs.declared.line_why.LineWhy.{LineWhy};
-ghost use Rattle.cert_check.specs.Held.{CarriesColumn, HasColumn, IsOver, IsMoved};
+ghost use Rattle.cert_check.specs.Held.{CarriesColumn, HasColumn, IsOver, IsMoved, line_of_read};
 ghost use Rattle.mill_model.specs.Mill.{IsInLimits};
 ghost use Rattle.cert_check.specs.Endings.{HasAccepted};
 ghost use Rattle.cert_check.specs.Readings.{IsStep, IsSameReader};
@@ -43,15 +44,15 @@ impl<'m> Model for Reader<'m> {
     ghost Value = { Reader };
 
     ghost view = { λ r. record {
-        reading = record {
-            mill = (seen r.machine).mill;
-            wanted = (seen r.machine).wanted;
-            kept = (seen r.machine).kept;
-            count = r.count;
-            held = (if r.taken then [] else r.held);
-            failed = r.failed;
-        };
-        last = last_of r.taken r.held;
+      reading = record {
+        mill = (seen r.machine).mill;
+        wanted = (seen r.machine).wanted;
+        kept = (seen r.machine).kept;
+        count = r.count;
+        held = (if r.taken then [] else r.held);
+        failed = r.failed;
+      };
+      last = last_of r.taken r.held;
     } };
 
     ghost invariant = { λ r. IsReady r.held r.taken r.failed (vec_capacity r.spare) };
@@ -103,15 +104,23 @@ impl<'m> Reader<'m> {
     pub(crate) fn end(self) -> Result<Ending, Failure>
         ensures accepted { (bytes : List ℕ) → Stands self.entry.reading bytes → IfOk result (HasAccepted self.entry.reading bytes) }
         ensures bad { (bytes : List ℕ) → Stands self.entry.reading bytes → IfErr result (λ f. IsBadAt self.entry.reading.mill self.entry.reading.wanted bytes f.line f.why) }
-        ensures limits { IsInLimits self.entry.reading.mill }
+        ensures limits { OnOk result (IsInLimits self.entry.reading.mill) }
     {
         let over = is_over(self.machine.phase());
-        let part = !self.taken && self.held.held() > 0;
-        match self.failed {
+        let part = has_part(self.taken, &self.held);
+        let Reader {
+            machine,
+            held: _held,
+            taken: _taken,
+            count,
+            failed,
+            spare: _spare,
+        } = self;
+        match failed {
             Some(failure) => Err(failure),
-            None if part => Err(failure_after(self.count, LineWhy::Spelling)),
-            None if !over => Err(failure_after(self.count, LineWhy::End)),
-            None => Ok(self.machine.into_ending()),
+            None if part => Err(failure_after(count, LineWhy::Spelling)),
+            None if !over => Err(failure_after(count, LineWhy::End)),
+            None => Ok(machine.into_ending()),
         }
     }
 
@@ -127,7 +136,6 @@ impl<'m> Reader<'m> {
         ensures mill { self.new.reading.mill ≡ self.old.reading.mill }
         ensures wanted { self.new.reading.wanted ≡ self.old.reading.wanted }
     {
-        self.release();
         if is_over(self.machine.phase()) {
             self.failed = Some(failure_after(self.count, LineWhy::Extra));
             return piece.len();
@@ -135,23 +143,11 @@ impl<'m> Reader<'m> {
         self.take_line(piece)
     }
 
-    // Lets go of the line that was taken.
-    fn release(&mut self)
-        ensures reading { self.new.reading ≡ self.old.reading }
-        ensures last { self.new.last ≡ None }
-    {
-        if self.taken {
-            self.held.clear();
-            self.taken = false;
-        }
-    }
-
     // Takes some bytes where the text hasn't ended.
     fn take_line(&mut self, piece: &[u8]) -> usize
         requires some { 0 < length piece.now }
         requires running { self.old.reading.failed ≡ None }
         requires open { ¬ IsOver self.old.reading.kept.phase }
-        requires last { self.old.last ≡ None }
         ensures within { result ≤ length piece.now }
         ensures moves { 0 < result }
         ensures stands { (bytes : List ℕ) → Stands self.old.reading bytes → Stands self.new.reading (bytes ++ take result piece.now) }
@@ -160,6 +156,8 @@ impl<'m> Reader<'m> {
         ensures mill { self.new.reading.mill ≡ self.old.reading.mill }
         ensures wanted { self.new.reading.wanted ≡ self.old.reading.wanted }
     {
+        let_go(&mut self.held, self.taken);
+        self.taken = false;
         let taken = self.held.feed(piece);
         match read_line(&self.held, &mut self.machine) {
             None => {}
@@ -182,10 +180,34 @@ impl<'m> Reader<'m> {
         if !self.taken {
             return None;
         }
-        match self.held.line() {
-            Some(Ok(line)) => Some(line),
-            _ => None,
-        }
+        good_line(&self.held)
+    }
+}
+
+// The held line, if it is whole and can be read.
+fn good_line(held: &LineBuf) -> Option<Line<'_>>
+    ensures { result ≡ line_of_read (next_line held.now) }
+{
+    match held.line() {
+        None => None,
+        Some(Err(_)) => None,
+        Some(Ok(line)) => Some(line),
+    }
+}
+
+// Whether bytes of a line are left.
+fn has_part(taken: bool, held: &LineBuf) -> bool
+    ensures { IsTrue result ↔ (0 < length (if taken then [] else held.now)) }
+{
+    !taken && held.held() > 0
+}
+
+// Lets go of a line that was taken.
+fn let_go(held: &mut LineBuf, taken: bool)
+    ensures { held.new ≡ (if taken then [] else held.old) }
+{
+    if taken {
+        held.clear();
     }
 }
 

@@ -1,9 +1,10 @@
 //! The sums of the points so far.
-ghost use Rattle.std.specs.Prelude.{◌≡◌, ◌≢◌, Err, ◌∷◌, [], reverse, length, IfOk, OnOk};
+ghost use Rattle.std.specs.Prelude.{◌≡◌, ◌≢◌, ◌↔◌, Err, ◌∷◌, [], reverse, length, IfOk, IfSome, IfNone, IsTrue, OnOk};
+ghost use Rattle.mill_model.specs.Fronts.{Exceeds, FallsBelow, below};
 ghost use Rattle.cert_rules.specs.States.{latest, limits_of};
-ghost use Rattle.cert_rules.specs.Slabs.{point_rules, sums_of_line};
+ghost use Rattle.cert_rules.specs.Slabs.{AreSums, point_rules, sums_of_line};
 ghost use Rattle.cert_slabs.specs.Answers.{Answers};
-ghost use Rattle.cert_slabs.specs.Tallies.{AreFair};
+ghost use Rattle.cert_slabs.specs.Tallies.{AreFair, IsFair};
 ghost use Rattle.cert_check.specs.Kept.{owner_of};
 
 use crate::Points;
@@ -18,6 +19,7 @@ const MOST_POINTS: usize = 251;
 
 // The greatest loss and the greatest count that a point's line may have.
 const MOST_LOSS: i64 = 2_500_000;
+
 const MOST_COUNT: i64 = 250;
 
 /// The sums of points whose losses rise and whose counts fall, the earliest first.
@@ -54,19 +56,11 @@ impl Staircase {
         ensures points { OnOk result (reverse self.new ≡ sums_of_line numbers.now ∷ reverse self.old) }
         ensures other { result ≢ Err Why.Column }
     {
-        let loss = numbers.get(0);
-        let count = numbers.get(1);
-        if loss < 0 || loss > MOST_LOSS || count < 0 || count > MOST_COUNT {
+        let Some(sums) = read_sums(numbers) else {
             return Err(Why::Range);
-        }
-        let sums = Sums {
-            loss: loss as u32,
-            count: count as u16,
         };
-        if let Some(last) = self.list.last() {
-            if sums.loss <= last.loss || sums.count >= last.count {
-                return Err(Why::Order);
-            }
+        if !follows(sums, self.latest()) {
+            return Err(Why::Order);
         }
         self.list.push_reserved(sums);
         Ok(())
@@ -91,15 +85,15 @@ impl Staircase {
             },
             [.., last] if rest => Limits {
                 loss: None,
-                count: Some(i64::from(last.count) - 1),
+                count: one_below(u32::from(last.count)),
             },
             [last] => Limits {
-                loss: Some(i64::from(last.loss) - 1),
+                loss: one_below(last.loss),
                 count: None,
             },
             [.., before, last] => Limits {
-                loss: Some(i64::from(last.loss) - 1),
-                count: Some(i64::from(before.count) - 1),
+                loss: one_below(last.loss),
+                count: one_below(u32::from(before.count)),
             },
         }
     }
@@ -110,4 +104,39 @@ impl Staircase {
     {
         Points::new(self.list)
     }
+}
+
+// The sums on a point's line, if plans can have them.
+fn read_sums(numbers: &Nums<'_>) -> Option<Sums>
+    requires { length numbers.now ≡ 2 }
+    ensures some { IfSome result (λ sums. AreSums numbers.now × (sums ≡ sums_of_line numbers.now)) }
+    ensures none { IfNone result (AreSums numbers.now → ⊥) }
+{
+    let loss = numbers.get(0);
+    let count = numbers.get(1);
+    if loss < 0 || loss > MOST_LOSS || count < 0 || count > MOST_COUNT {
+        return None;
+    }
+    Some(Sums {
+        loss: loss as u32,
+        count: count as u16,
+    })
+}
+
+// Whether the loss lies above that of the point before, and the count below its count.
+fn follows(sums: Sums, before: Option<Sums>) -> bool
+    ensures { IsTrue result ↔ (Exceeds sums.loss before × FallsBelow sums.count before) }
+{
+    match before {
+        None => true,
+        Some(last) => sums.loss > last.loss && sums.count < last.count,
+    }
+}
+
+// One less than a number.
+fn one_below(number: u32) -> Option<i64>
+    ensures value { result ≡ below (Some number) }
+    ensures fair { IsFair result }
+{
+    Some(i64::from(number) - 1)
 }
