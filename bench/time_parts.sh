@@ -53,7 +53,7 @@ each() {
 
 ratio() { awk -v a="$1" -v b="$2" 'BEGIN { printf "%.1f", a / b }'; }
 
-# on_mill PART MILL OLD_TIMES NEW_TIMES: a line of the table
+# on_mill PART MILL OLD_TIMES NEW_TIMES [TIMES_OF_THREE_COLOURS]: a line of the table
 on_mill() {
     local part=$1 mill=$2 words before now three=-
     local orders=$mills/$mill.ord yard=$mills/$mill.yard
@@ -66,9 +66,9 @@ on_mill() {
     esac
     before=$(each "$old" "$3" "${words[@]}")
     now=$(each "$new" "$4" "${words[@]}")
-    if [ "$part" = price ] || [ "$part" = leaf ]; then
+    if [ $# = 5 ]; then
         words[4]=3
-        three=$(each "$new" "$4" "${words[@]}")
+        three=$(each "$new" "$5" "${words[@]}")
     fi
     printf '%-8s %-12s %12s %10s %7s %12s\n' "$part" "$mill" "$before" "$now" "$(ratio "$before" "$now")" "$three"
 }
@@ -78,15 +78,15 @@ on_mill master csplib111 5 50
 on_mill master few30c8y_0 3 20
 on_mill master schaus8_0 1 2
 on_mill master few50c8y_0 1 2
-on_mill price csplib111 1 20
-on_mill price few30c8y_0 20 50
+on_mill price csplib111 1 20 1
+on_mill price few30c8y_0 20 50 10
 on_mill price schaus8_0 1 8
 on_mill price few50c8y_0 5 20
 on_mill decide csplib111 50 5000
 on_mill decide few30c8y_0 100 1000
 on_mill decide schaus8_0 10 1000
 on_mill decide few50c8y_0 5 50
-on_mill leaf csplib111 100 2000
-on_mill leaf few30c8y_0 500 1500
+on_mill leaf csplib111 100 2000 50
+on_mill leaf few30c8y_0 500 1500 100
 on_mill leaf schaus8_0 10 60
 rm -r "$here"
