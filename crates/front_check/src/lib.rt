@@ -3,8 +3,6 @@
 //! Read `words` first (what is asked), then `ending` (what a run finds before it says anything), `files` and `reading` (how it
 //! reads a mill and a certificate), `verdict` and `texts` (what it says), and last `program`, the whole run. What a run owes
 //! stands in `specs/Owed`.
-//!
-//! Unfinished: contracts and bodies stand, and are not proved yet.
 #![tactic(auto)]
 
 mod ending;
