@@ -54,11 +54,12 @@ fn solve_master(
     solved: &mut Solved,
 ) -> Result<i64, AllocError> {
     let rows = read_rows(alloc, told)?;
+    let count = rows.len();
     let mut master = Master::new(alloc, &rows)?;
     'steps: for _ in 0..most {
         match told.number() {
             2 => {
-                let column = read_column(alloc, told, rows.len())?;
+                let column = read_column(alloc, told, count)?;
                 master.add_column(alloc, &column)?;
             }
             3 => {
