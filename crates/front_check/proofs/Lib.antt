@@ -5,3 +5,4 @@ pub mod Numbers
 pub mod OptionSteps
 pub mod Pieces
 pub mod Once
+pub mod Failing

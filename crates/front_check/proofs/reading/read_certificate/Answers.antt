@@ -3,6 +3,7 @@ use Rattle.std.proofs.lemmas.Grind.{common_steps}
 use Rattle.cert_check.specs.Verdicts.{said_of}
 use Rattle.front_check.specs.Owed.{most_piece}
 use Rattle.front_check.proofs.Pieces.{fed_nothing, fed_more, is_bad, room_falls, verdict_bad, verdict_whole, stops_soon, stops_at_end}
+use Rattle.front_check.proofs.Failing.{read_failed, fault_is}
 use Rattle.front_check.proofs.reading.read_certificate.Goals as goal
 
 pub pieces-init : goal.pieces-init
@@ -50,3 +51,10 @@ pub returns-then-count-eq0-clause-soon : goal.returns-then-count-eq0-clause-soon
 returns-then-count-eq0-clause-soon g c =
     let some : 0 < length c.read.new.buf = grind (arith, common_steps) in
     stops_at_end _ c.args.mill.now c.args.name.now c.read.new.buf c.in_ok-count.count _ _ _ c.pieces.invariant.mill c.if-count-eq0.true some c.pieces.invariant.fed c.in_ok-count.ensures.reads
+
+pub returns-in_err-count-clause-reads : goal.returns-in_err-count-clause-reads
+returns-in_err-count-clause-reads g c =
+    read_failed _ c.args.name.now c.from_residual-in_err-count.result _ (g.D.Desk.told c.pieces.desk) _ _ (g.D.Desk.faults c.pieces.desk) _ c.pieces.invariant.fed c.pieces.invariant.kept c.in_err-count.ensures.cause.later c.in_err-count.ensures.cause.failed c.in_err-count.ensures.reads c.from_residual-in_err-count.ensures
+
+pub returns-in_err-count-clause-stopped : goal.returns-in_err-count-clause-stopped
+returns-in_err-count-clause-stopped g c = c.in_err-count.ensures.stopped ∙ sym (fault_is c.from_residual-in_err-count.result c.from_residual-in_err-count.ensures)
