@@ -1,13 +1,15 @@
 //! Runs one part of the product on work that a file tells, so that a script can time it from outside, and prints how the
-//! calls ended. It prints no time of its own. `told` reads the numbers of a file, `masters` solves restricted masters, and
-//! `calls` rebuilds decisions and prices columns.
+//! calls ended. It prints no time of its own. `told` reads the numbers of a file, `masters` solves restricted masters,
+//! `calls` rebuilds decisions and prices columns, and `leaves` tests the leaves of a certificate.
 #![tactic(auto)]
 
 mod calls;
+mod leaves;
 mod masters;
 mod told;
 
 use crate::calls::make_calls;
+use crate::leaves::test_leaves;
 use crate::masters::solve_masters;
 use crate::told::read_numbers;
 use mill_model::Mill;
@@ -66,6 +68,7 @@ fn run<R: Env + Files + AllocGlobal + Print>(rt: &R) -> io::Result<bool> {
         _ => {
             println!(rt; "usage: bench_parts MASTERS TIMES")?;
             println!(rt; "       bench_parts price|decide CALLS ORDERS YARD COLOURS TIMES")?;
+            println!(rt; "       bench_parts leaf CERTIFICATE ORDERS YARD COLOURS TIMES")?;
             Ok(false)
         }
     }
@@ -118,8 +121,13 @@ fn run_on_mill<R: Files + AllocGlobal + Print>(
     mill: &Mill,
     times: u16,
 ) -> io::Result<bool> {
-    let numbers = read_numbers(rt.alloc(), &fs::read(rt, file)?)?;
-    let tally = make_calls(rt.alloc(), mill, &numbers, part == "price", times)?;
+    let text = fs::read(rt, file)?;
+    let tally = if part == "leaf" {
+        test_leaves(rt.alloc(), mill, &text, times)?
+    } else {
+        let numbers = read_numbers(rt.alloc(), &text)?;
+        make_calls(rt.alloc(), mill, &numbers, part == "price", times)?
+    };
     println!(rt; "same {} other {}", tally.same, tally.other)?;
     Ok(true)
 }
