@@ -16,7 +16,7 @@ for packed in "$parts"/*.gz; do
     file=$(basename "$packed" .gz)
     gunzip -c "$packed" >"$here/$file"
 done
-
+cp "$parts"/*.cert "$here"
 
 # The older tree, with today's program on its calls.
 if [ ! -d "$older" ]; then
@@ -61,6 +61,7 @@ on_mill() {
     [ -f "$yard" ] || yard=$here/empty.yard
     case "$part" in
         master) words=("$here/$mill.mas") ;;
+        leaf) words=(leaf "$here/$mill.cert" "$orders" "$yard" 2) ;;
         *) words=("$part" "$here/$mill.pri" "$orders" "$yard" 2) ;;
     esac
     before=$(each "$old" "$3" "${words[@]}")
@@ -85,4 +86,7 @@ on_mill decide csplib111 50 5000
 on_mill decide few30c8y_0 100 1000
 on_mill decide schaus8_0 10 1000
 on_mill decide few50c8y_0 5 50
+on_mill leaf csplib111 100 2000 50
+on_mill leaf few30c8y_0 500 1500 100
+on_mill leaf schaus8_0 10 60
 rm -r "$here"
