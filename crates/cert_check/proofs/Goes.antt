@@ -279,9 +279,10 @@ module _ (old mid new : Machine) (line : Line) (at : old.kept.phase ≡ phases.P
         let g = goes (InTree (goal_at state s) Begins []) (mid_keeps state s) in
         let kept : AllKept (rules_of (start_at state s)) = subst (λ m. AllKept (rules_of (turn_at_start m (goal_at state s) old.kept.version [] line))) mill g.0 in
         let keeps : Keeps old.mill new.kept (next_of (InTree (goal_at state s) Begins []) (start_at state s)) = subst (λ m. Keeps m new.kept (next_of (InTree (goal_at state s) Begins []) (turn_at_start m (goal_at state s) old.kept.version [] line))) mill g.1 in
-        let both = with_back (plan_rules old.mill s.sums s.slabs) (start_at state s) (planned s.before s.sums s.slabs s.points s.draft) kept in
-        (subst (λ t. AllKept (rules_of t)) (sym (turn_is state s)) both.0,
-         subst (λ t. Keeps old.mill new.kept (next_of state t)) (sym (turn_is state s)) (subst (λ x. Keeps old.mill new.kept x) (sym (both.1 state (InTree (goal_at state s) Begins []))) keeps))
+        let both = with_back (plan_rules old.mill s.sums s.slabs) (start_at state s) (planned s.before s.sums s.slabs s.points s.draft) kept in (
+          subst (λ t. AllKept (rules_of t)) (sym (turn_is state s)) both.0,
+          subst (λ t. Keeps old.mill new.kept (next_of state t)) (sym (turn_is state s)) (subst (λ x. Keeps old.mill new.kept x) (sym (both.1 state (InTree (goal_at state s) Begins []))) keeps),
+        )
 
     pub plan_then_refused : (broken : Why) → IsRefused mid line broken → IsRefused old line broken
     plan_then_refused broken refused state h =
@@ -576,9 +577,10 @@ module _ (old new : Machine) (rest : Bool) (at : old.kept.phase ≡ phases.Sprea
         covered_goes asked keeps state h =
             let s = spread state h in
             let both = with_back (cover_rules old.mill (tree_limits spread_goal) (unsigned_abs d) s.shares) asking (covers s.shares s.tally) (asked.kept (InTree spread_goal Begins)) in
-            let is : turn old.mill old.wanted state line ≡ with_rules (cover_rules old.mill (tree_limits spread_goal) (unsigned_abs d) s.shares) asking = ap (λ x. turn old.mill old.wanted x line) s.is ∙ asked_after s.shares s.tally in
-            (subst (λ t. AllKept (rules_of t)) (sym is) both.0,
-             subst (λ t. Keeps old.mill new.kept (next_of state t)) (sym is) (subst (λ x. Keeps old.mill new.kept x) (sym (both.1 state state ∙ asked.next_is (InTree spread_goal Begins) state)) keeps))
+            let is : turn old.mill old.wanted state line ≡ with_rules (cover_rules old.mill (tree_limits spread_goal) (unsigned_abs d) s.shares) asking = ap (λ x. turn old.mill old.wanted x line) s.is ∙ asked_after s.shares s.tally in (
+              subst (λ t. AllKept (rules_of t)) (sym is) both.0,
+              subst (λ t. Keeps old.mill new.kept (next_of state t)) (sym is) (subst (λ x. Keeps old.mill new.kept x) (sym (both.1 state state ∙ asked.next_is (InTree spread_goal Begins) state)) keeps),
+            )
 
 -- ---- in the open tree
 

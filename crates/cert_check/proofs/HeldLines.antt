@@ -116,10 +116,12 @@ refused_is_bad old new held broken full refused e carries = record {
     column_at (carried.Column kind orders) e carries state line h read =
         let found = refused.found (sym e) in
         let same : line ≡ found.0 = cc (read, found.1) in
-        let is : found.2.column ≡ record { kind = kind; orders = orders } = cc (found.2.bad, carries) in
-        (found.2.numbers, same ∙ found.2.leaf,
-         subst (λ c. IsExceeding old.mill (path_of state) (prices_of (length old.mill.orders) found.2.numbers) c) is
-         (subst (λ path. IsExceeding old.mill path (prices_of (length old.mill.orders) found.2.numbers) found.2.column) (path_kept old.mill old.kept state h) found.2.exceeds))
+        let is : found.2.column ≡ record { kind = kind; orders = orders } = cc (found.2.bad, carries) in (
+          found.2.numbers,
+          same ∙ found.2.leaf,
+          subst (λ c. IsExceeding old.mill (path_of state) (prices_of (length old.mill.orders) found.2.numbers) c) is
+              (subst (λ path. IsExceeding old.mill path (prices_of (length old.mill.orders) found.2.numbers) found.2.column) (path_kept old.mill old.kept state h) found.2.exceeds),
+        )
     column_at carried.Extra e carries state line h read = tt
     column_at carried.End e carries state line h read = tt
     column_at carried.Spelling e carries state line h read = tt

@@ -151,7 +151,7 @@ module _ (was now : Machine) (count : ℕ) (taken : Bool) (held : List ℕ) (fai
         → why_of full ≡ broken → CarriesColumn now.bad full → new.mill ≡ now.mill → new.wanted ≡ now.wanted → new.failed ≡ Some (record { line = number_after count; why = full }) → HasTaken value.reading new fed
     bad_has_taken r broken full new e step same why carries mill wanted fails =
         let refused : IsRefusedHeld was now ((if taken then [] else held) ++ fed) broken =
-            subst (λ (xs : List ℕ). IsRefusedHeld was now xs broken) next_is (subst (λ (x : Result (Unit {0}) Why). IsStep was now next (Some x)) e step) in
+        subst (λ (xs : List ℕ). IsRefusedHeld was now xs broken) next_is (subst (λ (x : Result (Unit {0}) Why). IsStep was now next (Some x)) e step) in
         from_old new (takes_bad old was.bad fed runs goes new full (refused_is_bad was now ((if taken then [] else held) ++ fed) broken full refused why carries) (mill ∙ same.mill) (wanted ∙ same.wanted) fails)
 
     pub part_has_moved : IsMoved value.reading.held fed next None
@@ -221,6 +221,7 @@ taken_all old now piece at taken (inr bad) = record {
   where
     rest_is : (bytes : List ℕ) → (bytes ++ take at piece) ++ drop at piece ≡ bytes ++ piece
     rest_is bytes = append_assoc bytes (take at piece) (drop at piece) ∙ ap (λ (xs : List ℕ). bytes ++ xs) (take-append-drop at piece)
+
     stays : (bytes : List ℕ) (failed : Option Failure) → now.failed ≡ failed → is_some failed ≡ true → StandsBy now.wanted now failed (bytes ++ take at piece) → StandsBy now.wanted now failed (bytes ++ piece)
     stays bytes None e b h = cc
     stays bytes (Some failure) e b h = subst (λ (xs : List ℕ). Fails now.wanted now.mill failure xs) (rest_is bytes) (fails_more now.wanted now.mill failure (bytes ++ take at piece) (drop at piece) h)

@@ -14,8 +14,8 @@ ghost use Rattle.cert_check.specs.Readings.{HasFound, IsTurn, IsSameReader, want
 
 use crate::ending::Ending;
 use crate::phase::Phase;
-use crate::staircase::Staircase;
 use crate::spread::{new_share, old_share};
+use crate::staircase::Staircase;
 use crate::tree::{ask_line, can_begin, is_ask, leaf_line};
 use cert_rules::Why;
 use cert_slabs::{Draft, Roster, Tally};
@@ -323,10 +323,22 @@ impl<'m> Machine<'m> {
     {
         match line {
             Line::CNew(numbers) => {
-                new_share(self.mill, &self.path, &mut self.tally, &mut self.roster, numbers)
+                new_share(
+                    self.mill,
+                    &self.path,
+                    &mut self.tally,
+                    &mut self.roster,
+                    numbers,
+                )
             }
             Line::COld(numbers) => {
-                old_share(self.mill, &self.path, &mut self.tally, &mut self.roster, numbers)
+                old_share(
+                    self.mill,
+                    &self.path,
+                    &mut self.tally,
+                    &mut self.roster,
+                    numbers,
+                )
             }
             _ => self.end_spread(rest, line),
         }

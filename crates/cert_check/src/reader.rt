@@ -44,15 +44,15 @@ impl<'m> Model for Reader<'m> {
     ghost Value = { Reader };
 
     ghost view = { λ r. record {
-        reading = record {
-            mill = (seen r.machine).mill;
-            wanted = (seen r.machine).wanted;
-            kept = (seen r.machine).kept;
-            count = r.count;
-            held = (if r.taken then [] else r.held);
-            failed = r.failed;
-        };
-        last = last_of r.taken r.held;
+      reading = record {
+        mill = (seen r.machine).mill;
+        wanted = (seen r.machine).wanted;
+        kept = (seen r.machine).kept;
+        count = r.count;
+        held = (if r.taken then [] else r.held);
+        failed = r.failed;
+      };
+      last = last_of r.taken r.held;
     } };
 
     ghost invariant = { λ r. IsReady r.held r.taken r.failed (vec_capacity r.spare) };

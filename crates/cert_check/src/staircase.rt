@@ -19,6 +19,7 @@ const MOST_POINTS: usize = 251;
 
 // The greatest loss and the greatest count that a point's line may have.
 const MOST_LOSS: i64 = 2_500_000;
+
 const MOST_COUNT: i64 = 250;
 
 /// The sums of points whose losses rise and whose counts fall, the earliest first.

@@ -21,7 +21,7 @@ too_many count numbers h l = omega (arith, h, rising_few 0 count (orders_on numb
 pub listed_step : (count low : ℕ) (n : ℤ) (rest : List ℤ) → Names count n → low ≤ index n → AreListed count low (n ∷ rest) ↔ AreListed count (index n + 1) rest
 listed_step count low n rest named l = (
   λ a. record { named = a.named.1; rise = a.rise.2 },
-  λ a. record { named = (named, a.named); rise = (l, below n named, a.rise) }
+  λ a. record { named = (named, a.named); rise = (l, below n named, a.rise) },
 )
   where
     below : (n : ℤ) → Names count n → index n < count

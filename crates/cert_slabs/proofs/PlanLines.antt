@@ -98,12 +98,15 @@ module _ (m : Mill) (slabs : List Column) (draft : Draft) (is : IsDraft m slabs 
       least_within = has_below 0 (length m.orders) (orders_on numbers) (get_or (orders_on numbers) 0 0) named.1 (head_has (orders_on numbers) next.some)
 
   pub next_from : (numbers : List ℤ) → 0 < length numbers → ArePlaceable m slabs numbers → AreNamed m numbers × AreNext draft.placed (orders_on numbers)
-  next_from numbers some place = ((place.named, place.rise), record {
-    some = omega (arith, some, length-map numbers index);
-    rise = subst (λ n. Rises 0 n (orders_on numbers)) (sym is.orders) place.rise;
-    free = each_has (λ o. get_or draft.placed o false ≡ false) (orders_on numbers) (λ o there. free_at o there);
-    least = λ o below. is.placed o (omega (arith, below, least_within)) ∙ place.least o below;
-  })
+  next_from numbers some place = (
+    (place.named, place.rise),
+    record {
+      some = omega (arith, some, length-map numbers index);
+      rise = subst (λ n. Rises 0 n (orders_on numbers)) (sym is.orders) place.rise;
+      free = each_has (λ o. get_or draft.placed o false ≡ false) (orders_on numbers) (λ o there. free_at o there);
+      least = λ o below. is.placed o (omega (arith, below, least_within)) ∙ place.least o below;
+    },
+  )
     where
       free_at : (o : ℕ) → has (orders_on numbers) o ≡ true → get_or draft.placed o false ≡ false
       free_at o there = not_true (get_or draft.placed o false) (λ e. has_each (λ x. IsPlaced slabs x → ⊥) (orders_on numbers) place.new o there (sym (is.placed o (has_below 0 (length m.orders) (orders_on numbers) o place.rise there)) ∙ e))
@@ -163,11 +166,13 @@ pub head_is_next : (kinds : List Kind) (placed : List Bool) (next room : ℕ) (o
 head_is_next kinds placed next room orders draft is =
     let within = (rises_at 0 (length placed) orders 0 is.rise is.some).1 in
     let low : next ≤ get_or orders 0 0 = next_low placed next (get_or orders 0 0) draft.below (all_at (λ o. get_or placed o false ≡ false) orders 0 is.free is.some) in
-    let inside : next < length placed = omega (arith, low, within) in
-    (elim (cases_lt next (get_or orders 0 0)) [
-      | inl l ↦ let e : false ≡ true = sym (draft.free inside) ∙ is.least next l in absurd cc
-      | inr l ↦ omega (arith, low, l)
-    ], inside)
+    let inside : next < length placed = omega (arith, low, within) in (
+      elim (cases_lt next (get_or orders 0 0)) [
+        | inl l ↦ let e : false ≡ true = sym (draft.free inside) ∙ is.least next l in absurd cc
+        | inr l ↦ omega (arith, low, l)
+      ],
+      inside,
+    )
 
 pub open_more : (kinds all : List Kind) (kind : Kind) (placed new : List Bool) (next after room : ℕ) (orders : List ℕ) → IsOpenDraft kinds placed next room → AreNext placed orders → all ≡ kinds ++ kind ∷ [] → ArePut placed new orders → IsNextFree new next after → IsOpenDraft all new after room
 open_more kinds all kind placed new next after room orders draft is all_is put free = record {

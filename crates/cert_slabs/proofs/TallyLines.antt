@@ -207,7 +207,10 @@ kind_fits m d shares old x (Old t) orders most is stock stay s there =
 -- and the other way round
 pub kind_stays : (m : Mill) (d : ℤ) (shares : List Share) (old : Tally) (x : ℕ) (kind : Kind) (orders : List ℕ) (most : ℕ) → IsTally m d shares old → length old.used ≡ length m.yard → AreWithin most old.used → OrdersWithin m most (shares ++ share_of x kind orders ∷ []) → ((s : ℕ) → is_old s kind ≡ true → get_or old.used s 0 + x ≤ most) → StayWithin m most (shares ++ share_of x kind orders ∷ []) kind
 kind_stays m d shares old x (New size) orders most is same within covers fits = covers
-kind_stays m d shares old x (Old t) orders most is same within covers fits = (covers, slabs_within m d shares old is x (Old t) orders most (λ s l. elim (cases_Bool (eqb t s)) [
-  | inl there ↦ subst (λ b. get_or old.used s 0 + cond b x 0 ≤ most) (sym there) (fits s there)
-  | inr gone ↦ subst (λ b. get_or old.used s 0 + cond b x 0 ≤ most) (sym gone) (omega (arith, within s (omega (arith, l, same))))
-]))
+kind_stays m d shares old x (Old t) orders most is same within covers fits = (
+  covers,
+  slabs_within m d shares old is x (Old t) orders most (λ s l. elim (cases_Bool (eqb t s)) [
+    | inl there ↦ subst (λ b. get_or old.used s 0 + cond b x 0 ≤ most) (sym there) (fits s there)
+    | inr gone ↦ subst (λ b. get_or old.used s 0 + cond b x 0 ≤ most) (sym gone) (omega (arith, within s (omega (arith, l, same))))
+  ]),
+)

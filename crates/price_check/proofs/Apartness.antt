@@ -14,9 +14,6 @@ use Rattle.price_check.specs.Apartness.{mark_at, AreMarkedApart}
 pub mark_within : (orders a b : ℕ) → a < orders → b < orders → a * orders + b < orders * orders
 mark_within orders a b p q = digits_lt {q = a} {m = orders} {r = b} {c = orders} p q
 
-pub apart_none : (decisions : List Decision) (orders : ℕ) (apart : List Bool) → length apart ≡ orders * orders → ((k : ℕ) → k < length apart → get_or apart k false ≡ false) → AreMarkedApart decisions orders apart
-apart_none decisions orders apart size none = record { size = size; never = λ a b p q marked c agree x y. both_ways (mark_at orders apart a b) (none (a * orders + b) (omega (arith, mark_within orders a b p q, size))) marked }
-
 -- one mark more
 pub apart_more : (decisions : List Decision) (orders a b : ℕ) (apart : List Bool) → a < orders → b < orders → ((c : Column) → column_agrees decisions c ≡ true → has c.orders a ≡ true → has c.orders b ≡ true → ⊥) → AreMarkedApart decisions orders apart
     → AreMarkedApart decisions orders (set apart (a * orders + b) true)

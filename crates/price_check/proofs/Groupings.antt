@@ -6,6 +6,7 @@ use Rattle.std.proofs.lemmas.List.Edits.{map_over_more}
 use Rattle.mill_model.specs.declared.ask.Ask.TheVariants.{Pair}
 use Rattle.mill_model.specs.Columns.{Column, has}
 use Rattle.mill_model.specs.Decisions.{Decision, agrees, column_agrees}
+use Rattle.pricing_laws.proofs.Pairs.{both_or_neither}
 use Rattle.pricing_laws.specs.Groups.{head_of, AreHeads}
 use Rattle.pricing_laws.proofs.Groups.{heads_stay, heads_renamed}
 use Rattle.price_check.specs.Groupings.{renamed}
@@ -26,12 +27,6 @@ module _ (gone kept : ℕ) (heads now : List ℕ) (i : ℕ) (within : i < length
 
 pub heads_later : (decisions : List Decision) (d : Decision) (heads : List ℕ) → AreHeads decisions heads → AreHeads (d ∷ decisions) heads
 heads_later decisions d heads are = heads_stay decisions (d ∷ decisions) heads (λ c h. (and_parts (agrees c d) (column_agrees decisions c) h).1) are
-
-both_or_neither : (s t : Bool) → cond s t (not t) ≡ true → s ≡ t
-both_or_neither true true e = refl
-both_or_neither true false e = sym e
-both_or_neither false true e = e
-both_or_neither false false e = refl
 
 -- two orders that are put together share the lesser head
 pub heads_pair : (decisions : List Decision) (heads : List ℕ) (i j : ℕ) → i < length heads → j < length heads → AreHeads decisions heads

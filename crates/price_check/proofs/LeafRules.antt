@@ -6,12 +6,11 @@ use Rattle.std.proofs.lemmas.List.Elements.{All-weaker}
 use Rattle.mill_model.specs.declared.kind.Kind.{Kind}
 use Rattle.std.proofs.lemmas.List.{length-take, length-drop}
 use Rattle.mill_model.specs.declared.limits.Limits.{Limits}
-use Rattle.mill_model.specs.Mill.{Mill, IsInLimits}
+use Rattle.mill_model.specs.Mill.{Mill}
 use Rattle.mill_model.specs.Columns.{Column}
 use Rattle.mill_model.specs.Decisions.{Decision}
 use Rattle.mill_model.specs.Prices.{Prices, IsPrice, ArePrices, Refutes, HasCount, HasSigns, HasLimits, IsWorth, NoneExceeds, prices_of}
 use Rattle.price_check.specs.Exceeding.{IsExceeding}
-use Rattle.price_check.specs.Asked.{IsAsked}
 use Rattle.cert_view.specs.Number.{IsWithin}
 use Rattle.price_check.proofs.Quotes.{ArePrices-from_quoted}
 
@@ -43,10 +42,6 @@ not_none m decisions p c exceeding none = exceeding.exceeds (none c exceeding.le
 pub found_exceeds : (m : Mill) (decisions : List Decision) (p : Prices) (found : Option Kind) (orders : List ℕ) → is_some found ≡ true → IfSome found (λ kind. IsExceeding m decisions p (record { kind = kind; orders = orders })) → NoneExceeds m decisions p → ⊥
 found_exceeds m decisions p None orders some exceeding none = cc
 found_exceeds m decisions p (Some kind) orders some exceeding none = not_none m decisions p (record { kind = kind; orders = orders }) exceeding none
-
--- what a leaf's search asks for
-pub asked_of : (m : Mill) (numbers : List ℤ) → IsInLimits m → HasCount m numbers → HasSigns (prices_of (length m.orders) numbers) → IsAsked m (prices_of (length m.orders) numbers)
-asked_of m numbers limits count signs = record { limits = limits; pi = pi_length (length m.orders) (length m.yard) numbers count; sigma = sigma_length (length m.orders) (length m.yard) numbers count; sign = signs.0 }
 
 -- numbers of a line are prices
 pub ArePrices-from_numbers : (n : ℕ) (numbers : List ℤ) → 2 + n ≤ length numbers → All IsWithin numbers → ArePrices (prices_of n numbers)

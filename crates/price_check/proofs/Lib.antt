@@ -7,11 +7,6 @@ pub mod Sums
 pub mod Apartness
 pub mod Groupings
 pub mod Options
-pub mod Stock
 pub mod LeafRules
 pub mod Answering
-pub mod ChainLemmas
 pub mod Packs
-pub mod Hunting
-pub mod Gathering
-pub mod Ranks

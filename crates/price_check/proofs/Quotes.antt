@@ -15,6 +15,3 @@ ArePrices-from_quoted n numbers quoted =
       pi = All-take IsPrice n (drop 2 numbers) (All-drop IsPrice 2 numbers quoted.range);
       sigma = All-drop IsPrice (2 + n) numbers quoted.range;
     }
-
-pub IsPrice_small : (z : ℤ) → IsPrice z → unsigned_abs z ≤ 2 ^ 62
-IsPrice_small z h = omega (arith, ints, h.0, h.1)

@@ -1,14 +1,14 @@
 -- Sums and products of prices.
-use Rattle.std.proofs.Common.{◌≡◌, ℕ, ◌+◌, ◌*◌, ◌^◌, ◌<◌, ◌≤◌, ℤ, pos, ◌+ℤ◌, ◌*ℤ◌, ◌<ℤ◌, ◌≤ℤ◌, List, length, get_or, take, subst, ap, ap₂, ◌∙◌, arith, to_z, of_z, true}
-use Rattle.std.specs.Prelude.{unsigned_abs, FitsSigned, IsTrue}
+use Rattle.std.proofs.Common.{◌≡◌, ℕ, ◌+◌, ◌*◌, ◌^◌, ◌<◌, ◌≤◌, ℤ, pos, ◌+ℤ◌, ◌*ℤ◌, ◌<ℤ◌, List, length, get_or, take, subst, ap, ◌∙◌, arith, to_z, of_z}
+use Rattle.std.specs.Prelude.{unsigned_abs, IsTrue}
 use Rattle.std.specs.Int.{w64, w128, int_max}
-use lib.Signed.{lt_z, le_z}
+use lib.Signed.{lt_z}
 use Rattle.std.proofs.lemmas.Int.{ints, unsigned_abs-mul, int_max_is}
 use Rattle.std.proofs.lemmas.Nat.{mul-le}
 use Rattle.mill_model.specs.SignedSums.{total_by}
 use Rattle.mill_model.specs.Prices.{IsPrice}
 use Rattle.mill_model.proofs.Signed.{total_by-more}
-use Rattle.price_check.proofs.Quotes.{IsPrice_small}
+use Rattle.pricing_laws.proofs.Numbers.{price_small}
 
 less_iff : (a b : ℤ) → (IsTrue (lt_z a b) → a <ℤ b) × (a <ℤ b → IsTrue (lt_z a b))
 less_iff a b = (λ e. grind (arith, ints), λ h. grind (arith, ints))
@@ -17,29 +17,12 @@ less_iff a b = (λ e. grind (arith, ints), λ h. grind (arith, ints))
 pub less_same : (a b x y : ℤ) → a ≡ x → b ≡ y → (IsTrue (lt_z a b) → x <ℤ y) × (x <ℤ y → IsTrue (lt_z a b))
 less_same a b x y e f = subst (λ (z : ℤ). (IsTrue (lt_z a b) → x <ℤ z) × (x <ℤ z → IsTrue (lt_z a b))) f (subst (λ (z : ℤ). (IsTrue (lt_z a b) → z <ℤ b) × (z <ℤ b → IsTrue (lt_z a b))) e (less_iff a b))
 
-multiple_small : (each : ℤ) (amount : ℕ) → IsPrice each → amount ≤ 10000 → unsigned_abs (each *ℤ pos amount) ≤ 2 ^ 62 * 10000
-multiple_small each amount h le = omega (arith, unsigned_abs-mul each (pos amount), mul-le (unsigned_abs each) amount (2 ^ 62) 10000 (IsPrice_small each h) le)
-
--- a price and a multiple of another, as they were computed
-pub multiple_back : (price each : ℤ) (amount : ℕ) (x y z : ℤ) → IsPrice price → IsPrice each → amount ≤ 10000 → x ≡ to_z w64 (of_z w64 each) → y ≡ pos amount → z ≡ to_z w64 (of_z w64 price)
-    → to_z w128 (of_z w128 (to_z w128 (of_z w128 z) +ℤ to_z w128 (of_z w128 (to_z w128 (of_z w128 x) *ℤ to_z w128 (of_z w128 y))))) ≡ price +ℤ each *ℤ pos amount
-multiple_back price each amount x y z p q le e f g =
-    let each_small : unsigned_abs each ≤ 2 ^ 62 = IsPrice_small each q in
-    let price_small : unsigned_abs price ≤ 2 ^ 62 = IsPrice_small price p in
-    let a : to_z w128 (of_z w128 x) ≡ each = omega (arith, ints) in
-    let b : to_z w128 (of_z w128 y) ≡ pos amount = omega (arith, ints) in
-    let d : to_z w128 (of_z w128 z) ≡ price = omega (arith, ints) in
-    rw (a, b, d) (omega (arith, ints, multiple_small each amount q le))
-
-pub multiple_bound : (price each : ℤ) (amount : ℕ) → IsPrice price → IsPrice each → amount ≤ 10000 → unsigned_abs (price +ℤ each *ℤ pos amount) ≤ 2 ^ 76
-multiple_bound price each amount p q le = omega (arith, ints, multiple_small each amount q le, IsPrice_small price p)
-
 -- a sum and one price more, as it was computed
 pub sum_back : (sum price x : ℤ) → unsigned_abs sum ≤ 2 ^ 80 → IsPrice price → x ≡ to_z w64 (of_z w64 price) → to_z w128 (of_z w128 (sum +ℤ to_z w128 (of_z w128 x))) ≡ sum +ℤ price
-sum_back sum price x s p e = let price_small : unsigned_abs price ≤ 2 ^ 62 = IsPrice_small price p in omega (arith, ints)
+sum_back sum price x s p e = let own_small : unsigned_abs price ≤ 2 ^ 62 = price_small price p in omega (arith, ints)
 
 pub sum_bound : (sum price : ℤ) (i : ℕ) → unsigned_abs sum ≤ i * 2 ^ 62 → IsPrice price → unsigned_abs (sum +ℤ price) ≤ (i + 1) * 2 ^ 62
-sum_bound sum price i s p = omega (arith, ints, IsPrice_small price p)
+sum_bound sum price i s p = omega (arith, ints, price_small price p)
 
 -- one price more
 pub total_more : (prices : List ℤ) (i : ℕ) (sum : ℤ) → i < length prices → sum ≡ total_by (λ q. q) (take i prices) → sum +ℤ get_or prices i (pos 0) ≡ total_by (λ q. q) (take (i + 1) prices)
@@ -55,48 +38,6 @@ back x a = omega (arith, ints)
 -- a product as it was computed
 pub product_same : (z x l k : ℤ) → IsPrice x → l ≡ x → z ≡ to_z w64 (of_z w64 l) *ℤ k → z ≡ x *ℤ k
 product_same z x l k p e h =
-    let small : unsigned_abs x ≤ 2 ^ 62 = IsPrice_small x p in
+    let small : unsigned_abs x ≤ 2 ^ 62 = price_small x p in
     let same : to_z w64 (of_z w64 l) ≡ x = omega (arith, ints) in
     h ∙ ap (λ y. y *ℤ k) same
-
--- a sum as it was computed
-pub add_back : (x y : ℤ) → unsigned_abs x ≤ 2 ^ 110 → unsigned_abs y ≤ 2 ^ 110 → to_z w128 (of_z w128 (to_z w128 (of_z w128 x) +ℤ to_z w128 (of_z w128 y))) ≡ x +ℤ y
-add_back x y a b = omega (arith, ints)
-
--- the greater of a number and a sum, as it was computed
-pub max_back : (left gain next best : ℤ) → unsigned_abs left ≤ 2 ^ 102 → unsigned_abs gain ≤ 2 ^ 84 → unsigned_abs next ≤ 2 ^ 102
-    → best ≡ int_max (to_z w128 (of_z w128 left)) (to_z w128 (of_z w128 (to_z w128 (of_z w128 gain) +ℤ to_z w128 (of_z w128 next)))) → to_z w128 (of_z w128 best) ≡ int_max left (gain +ℤ next)
-max_back left gain next best a b d e =
-    let first : to_z w128 (of_z w128 left) ≡ left = omega (arith, ints) in
-    let second : to_z w128 (of_z w128 (to_z w128 (of_z w128 gain) +ℤ to_z w128 (of_z w128 next))) ≡ gain +ℤ next = omega (arith, ints) in
-    let here : best ≡ int_max left (gain +ℤ next) = e ∙ ap₂ int_max first second in
-    omega (arith, ints, here, int_max_is left (gain +ℤ next))
-
-pub max_left : (left right best : ℤ) → best ≡ int_max left right → left ≤ℤ best
-max_left left right best e = omega (arith, ints, e, int_max_is left right)
-
-pub max_right : (left right best : ℤ) → best ≡ int_max left right → right ≤ℤ best
-max_right left right best e = omega (arith, ints, e, int_max_is left right)
-
-pub max_small : (left gain next best : ℤ) (bound : ℕ) → best ≡ int_max left (gain +ℤ next) → unsigned_abs gain ≤ 2 ^ 84 → unsigned_abs left ≤ bound → unsigned_abs next ≤ bound → unsigned_abs best ≤ bound + 2 ^ 84
-max_small left gain next best bound e a b d = omega (arith, ints, e, int_max_is left (gain +ℤ next))
-
-pub back_small : (x : ℤ) → unsigned_abs x ≤ 2 ^ 110 → to_z w128 (of_z w128 x) ≡ x
-back_small x a = omega (arith, ints)
-
--- a comparison of a sum as it was computed
-pub le_same : (a x b : ℤ) → a ≡ x → le_z a b ≡ true → x ≤ℤ b
-le_same a x b e h = let low : a ≤ℤ b = le_from a b h in subst (λ z. z ≤ℤ b) e low
-  where
-    le_from : (a b : ℤ) → le_z a b ≡ true → a ≤ℤ b
-    le_from a b h = grind (arith, ints)
-
-pub positive_small : (gain best : ℤ) (bound : ℕ) → best ≡ int_max gain (pos 0) → unsigned_abs gain ≤ bound → unsigned_abs best ≤ bound
-positive_small gain best bound e a = omega (arith, ints, e, int_max_is gain (pos 0))
-
--- a comparison of two numbers as they were read
-pub le_back : (a b : ℤ) → unsigned_abs a ≤ 2 ^ 110 → FitsSigned w128 b → le_z (to_z w128 (of_z w128 a)) (to_z w128 (of_z w128 b)) ≡ true → a ≤ℤ b
-le_back a b p q h =
-    let first : to_z w128 (of_z w128 a) ≡ a = omega (arith, ints) in
-    let second : to_z w128 (of_z w128 b) ≡ b = omega (arith, ints, q) in
-    subst (λ z. a ≤ℤ z) second (le_same (to_z w128 (of_z w128 a)) a (to_z w128 (of_z w128 b)) first h)

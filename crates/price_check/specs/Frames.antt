@@ -1,45 +1,18 @@
--- What stands through the test of a leaf.
-use Rattle.std.specs.Prelude.{◌≡◌, ℕ, ◌+◌, ◌^◌, ◌<◌, ◌≤◌, ℤ, unsigned_abs, Bool, List, length, slice_index, cond, eqb}
-use Rattle.mill_model.specs.Mill.{Mill}
-use Rattle.pricing_laws.specs.Bounds.{AreEnds}
-use Rattle.pricing_laws.specs.Colours.{colour_at}
-use Rattle.pricing_laws.specs.Groups.{head_of}
-use Rattle.pricing_laws.specs.Groupings.{Groups, AreGroups}
-use Rattle.pricing_laws.specs.Worths.{AreWorths, IsFloor, IsRanking}
+-- What stands through the test of a leaf, as the laws of pricing see it.
+use Rattle.std.specs.Prelude.{Bool, List, length}
 use Rattle.price_check.specs.declared.leaf.Leaf.{Leaf}
+use Rattle.price_check.specs.Apartness.{AreMarkedApart}
+use Rattle.pricing_laws.specs.Chains as chains
+use Rattle.pricing_laws.specs.Frames as frames
 use Rattle.price_check.specs.declared.chains.Chains.{Chains}
 use Rattle.price_check.specs.declared.frame.Frame.{Frame}
-use Rattle.price_check.specs.Apartness.{AreMarkedApart}
-use Rattle.price_check.specs.Chains.{AreChains}
 
--- the colour of a head, and 0 for another order
-abbrev pub colour_key : Mill → List ℕ → ℕ → ℕ
-colour_key m heads o = cond (eqb (head_of heads o) o) (colour_at m o) 0
+abbrev pub chains_of : Chains → chains.Chains
+chains_of c = record { first = c.first.items; next = c.next.items }
 
--- for each order its colour key
-abbrev pub AreColourKeys : Mill → List ℕ → List ℕ → Type 0
-AreColourKeys m heads keys = (o : ℕ) → o < length heads → slice_index keys o ≡ colour_key m heads o
-
-abbrev pub AreChainsOf : (ℕ → ℕ) → ℕ → ℕ → Chains → Type 0
-AreChainsOf key_of numbers count chains = AreChains key_of numbers count chains.first.items chains.next.items
-
-abbrev pub AreGroupsIn : Leaf → Groups → Type 0
-AreGroupsIn t groups = AreGroups t.mill.now t.trail.now.decisions t.quote.now groups
-
-abbrev pub AreWorthsIn : Leaf → Groups → List ℤ → Type 0
-AreWorthsIn t groups worths = AreWorths t.mill.now t.quote.now groups 0 worths
+abbrev pub frame_of : Frame → frames.Frame
+frame_of f = record { groups = f.groups; by_colour = chains_of f.by_colour; by_head = chains_of f.by_head; ends = f.ends.items; worths = f.worths.items; ranking = f.ranking.items; floor = f.floor }
 
 -- a mark for each two orders that no column that agrees has both of
 abbrev pub AreMarkedIn : Leaf → List Bool → Type 0
 AreMarkedIn t apart = AreMarkedApart t.trail.now.decisions (length t.mill.now.orders) apart
-
-pub record IsFrame (t : Leaf) (f : Frame) : Type 0 where
-  pub groups : AreGroupsIn t f.groups
-  pub apart : AreMarkedIn t f.apart.items
-  pub by_colour : AreChainsOf (colour_key t.mill.now f.groups.heads) (length t.mill.now.orders) (t.mill.now.colours + 1) f.by_colour
-  pub by_head : AreChainsOf (head_of f.groups.heads) (length t.mill.now.orders) (length t.mill.now.orders) f.by_head
-  pub ends : AreEnds t.mill.now t.quote.now f.ends.items
-  pub worths : AreWorthsIn t f.groups f.worths.items
-  pub ranking : IsRanking t.mill.now f.worths.items f.ranking.items
-  pub floor : IsFloor t.mill.now t.quote.now f.floor
-  pub small : unsigned_abs f.floor ≤ 2 ^ 62

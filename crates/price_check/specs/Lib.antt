@@ -7,9 +7,7 @@ pub mod Groupings
 pub mod Apartness
 pub mod Asked
 pub mod Leaves
-pub mod Chains
 pub mod Frames
-pub mod Grids
 pub mod Tables
 pub mod Searches
 pub mod Hunts

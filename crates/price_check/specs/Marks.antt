@@ -1,5 +1,6 @@
 -- A mark for each question says whether it stands on a path.
 use Rattle.std.specs.Prelude.{◌≡◌, ℕ, ◌+◌, ◌*◌, ◌≤◌, Bool, true, false, List, [], ◌∷◌, length, slice_index_or, slice_set}
+use Rattle.mill_model.specs.Mill.{most_orders, most_slabs}
 use Rattle.mill_model.specs.declared.ask.Ask.{Ask}
 use Rattle.mill_model.specs.declared.ask.Ask.TheVariants.{Pair, Put}
 use Rattle.mill_model.specs.Decisions.{Decision}
@@ -19,8 +20,8 @@ AreMarked orders slabs (d ∷ decisions) marks =
 
 -- there is a mark for each question, and room for each decision
 pub record IsMarkedTrail (orders slabs : ℕ) (decisions : List Decision) (marks : List Bool) (capacity : ℕ) : Type 0 where
-  pub few_orders : orders ≤ 250
-  pub few_slabs : slabs ≤ 40
+  pub few_orders : orders ≤ most_orders
+  pub few_slabs : slabs ≤ most_slabs
   pub size : length marks ≡ asks_among orders slabs
   pub marked : AreMarked orders slabs decisions marks
   pub room : asks_among orders slabs ≤ capacity

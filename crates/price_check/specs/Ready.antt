@@ -1,5 +1,6 @@
 -- What a path keeps for the test of a leaf.
 use Rattle.std.specs.Prelude.{◌≡◌, ℕ, ◌*◌, ◌≤◌, List, length, Option, option_map}
+use Rattle.mill_model.specs.Mill.{most_orders, most_slabs}
 use Rattle.mill_model.specs.declared.kind.Kind.{Kind}
 use Rattle.mill_model.specs.Prices.{Prices}
 use Rattle.pricing_laws.specs.Groupings.{HasRoom}
@@ -21,8 +22,8 @@ HasSpace orders w = HasFrameRoom orders w.frame
 
 -- there is room for the prices, and for the search of a column that exceeds
 pub record IsReady (trail : Trail) (quote : Prices) (space : Workspace) : Type 0 where
-  pub few_orders : trail.orders ≤ 250
-  pub few_slabs : trail.slabs ≤ 40
+  pub few_orders : trail.orders ≤ most_orders
+  pub few_slabs : trail.slabs ≤ most_slabs
   pub pi_length : length quote.pi ≡ trail.orders
   pub sigma_length : length quote.sigma ≡ trail.slabs
   pub workspace : HasSpace trail.orders space

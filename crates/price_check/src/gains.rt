@@ -1,5 +1,6 @@
 //! What orders gain at the prices of a leaf.
 ghost use Rattle.std.specs.Prelude.{◌≡◌, ◌<◌, ◌≤◌, ◌^◌, pos, ◌+ℤ◌, ◌*ℤ◌, unsigned_abs, length};
+ghost use Rattle.mill_model.specs.Mill.{most_weight};
 ghost use Rattle.mill_model.specs.Prices.{IsPrice};
 ghost use Rattle.pricing_laws.specs.Gains.{gain_of};
 
@@ -10,7 +11,7 @@ use mill_model::Mill;
 fn with_multiple(price: i64, each: i64, amount: u16) -> i128
     requires price { IsPrice price }
     requires each { IsPrice each }
-    requires amount { amount ≤ 10000 }
+    requires amount { amount ≤ most_weight }
     ensures value { result ≡ price +ℤ each *ℤ pos amount }
     ensures small { unsigned_abs result ≤ 2 ^ 76 }
 {

@@ -1,9 +1,9 @@
 //! What a table is made from.
-ghost use Rattle.price_check.specs.Grids.{IsGrid};
+ghost use Rattle.pricing_laws.specs.Grids.{IsGrid};
 
 use crate::groups::Groups;
 
-/// The groups of a queue, and the loads that the columns of a table stand for: the multiples of a step.
+// The groups of a queue, and the loads that the columns of a table stand for: the multiples of a step.
 #[derive(Clone, Copy)]
 pub(crate) struct Grid<'a> {
     pub groups: &'a Groups,

@@ -1,5 +1,6 @@
 //! Orders in the groups that the decisions join.
 ghost use Rattle.std.specs.Prelude.{◌≡◌, ◌*◌, ◌<◌, ◌≤◌, [], ◌∷◌, List, true, IfOk, length, reverse};
+ghost use Rattle.mill_model.specs.Mill.{most_orders};
 ghost use Rattle.mill_model.specs.Decisions.{Decision};
 ghost use Rattle.pricing_laws.specs.Groups.{AreHeads};
 ghost use Rattle.pricing_laws.specs.Groupings.{HasRoom, AreBefore, AreWeights, AreGains, AreGroups, weight_at, gain_at};
@@ -8,11 +9,11 @@ ghost use Rattle.price_check.specs.Groupings.{renamed};
 use crate::gains::gain_of;
 use crate::quote::Quote;
 use crate::trail::Trail;
-use mill_model::{Ask, Mill};
+use mill_model::{Ask, MOST_ORDERS, Mill};
 use std::alloc::{AllocError, Global};
 use std::marker::Model;
 
-/// For each order the least of its group, its head, and for each head what its group weighs and gains.
+// For each order the least of its group, its head, and for each head what its group weighs and gains.
 #[derive(Drop)]
 pub(crate) struct Groups {
     heads: Vec<u16>,
@@ -25,13 +26,14 @@ impl Model for Groups {
 
     ghost Value = { Groups };
 
-    ghost view = { λ g. record { heads = g.heads.items; weights = g.weights.items; gains = g.gains.items } };
+    ghost view = { λ g.
+        record { heads = g.heads.items; weights = g.weights.items; gains = g.gains.items } };
 }
 
 impl Groups {
     // Room for the groups of so many orders.
     pub(crate) fn new(alloc: Global, orders: usize) -> Result<Groups, AllocError>
-        requires { orders ≤ 250 }
+        requires { orders ≤ most_orders }
         ensures { IfOk result (HasRoom orders) }
     {
         let heads = vec![in alloc; 0; orders]?;
@@ -51,7 +53,7 @@ impl Groups {
         ensures { AreGroups mill.now trail.now.decisions quote.now self.new }
     {
         let few = mill.orders().len();
-        prove!(few <= 250);
+        prove!(few <= MOST_ORDERS as usize);
         join_orders(trail, &mut self.heads);
         weigh_groups(mill, &self.heads, &mut self.weights);
         price_groups(mill, quote, &self.heads, &mut self.gains);
@@ -83,7 +85,7 @@ impl Groups {
 
 // The heads of the orders under the decisions of a trail.
 fn join_orders(trail: &Trail, heads: &mut [u16])
-    requires { length heads.old ≤ 250 }
+    requires { length heads.old ≤ most_orders }
     ensures { AreHeads trail.now.decisions heads.new }
 {
     part(heads);
@@ -92,7 +94,7 @@ fn join_orders(trail: &Trail, heads: &mut [u16])
 
 // Each order is its own head.
 fn part(heads: &mut [u16])
-    requires { length heads.old ≤ 250 }
+    requires { length heads.old ≤ most_orders }
     ensures { AreHeads [] heads.new }
 {
     for (order, head) in heads.iter_mut().enumerate() {
@@ -112,7 +114,8 @@ fn join_all(decisions: &[(Ask, bool)], heads: &mut [u16])
 
 // Joins the groups of two orders where a decision puts them together.
 fn join(ask: Ask, answer: bool, heads: &mut [u16])
-    ensures { (decisions : List Decision) → AreHeads decisions heads.old → AreHeads ((ask, answer) ∷ decisions) heads.new }
+    ensures { (decisions : List Decision) → AreHeads decisions heads.old
+        → AreHeads ((ask, answer) ∷ decisions) heads.new }
 {
     if let (Ask::Pair(i, j), true) = (ask, answer) {
         join_pair(i, j, heads);
@@ -121,7 +124,8 @@ fn join(ask: Ask, answer: bool, heads: &mut [u16])
 
 // Joins the groups of two orders, if there are such orders.
 fn join_pair(i: u16, j: u16, heads: &mut [u16])
-    ensures { (decisions : List Decision) → AreHeads decisions heads.old → AreHeads ((Ask.Pair i j, true) ∷ decisions) heads.new }
+    ensures { (decisions : List Decision) → AreHeads decisions heads.old
+        → AreHeads ((Ask.Pair i j, true) ∷ decisions) heads.new }
 {
     let (i, j) = (usize::from(i), usize::from(j));
     if i >= heads.len() || j >= heads.len() {
@@ -147,7 +151,7 @@ fn rename(gone: u16, kept: u16, heads: &mut [u16])
 fn weigh_groups(mill: &Mill, heads: &[u16], weights: &mut [u32])
     requires orders { length heads.now ≡ length mill.now.orders }
     requires before { AreBefore heads.now }
-    requires few { length heads.now ≤ 250 }
+    requires few { length heads.now ≤ most_orders }
     requires room { length weights.old ≡ length heads.now }
     ensures { AreWeights mill.now heads.now weights.new }
 {
@@ -162,7 +166,7 @@ fn price_groups(mill: &Mill, quote: &Quote, heads: &[u16], gains: &mut [i128])
     requires count { length quote.now.pi ≡ length mill.now.orders }
     requires orders { length heads.now ≡ length mill.now.orders }
     requires before { AreBefore heads.now }
-    requires few { length heads.now ≤ 250 }
+    requires few { length heads.now ≤ most_orders }
     requires room { length gains.old ≡ length heads.now }
     ensures { AreGains mill.now quote.now heads.now gains.new }
 {

@@ -5,7 +5,7 @@ use crate::quote::Quote;
 use crate::trail::Trail;
 use mill_model::Mill;
 
-/// A mill with the decisions down to a leaf and its prices.
+// A mill with the decisions down to a leaf and its prices.
 #[derive(Clone, Copy)]
 pub(crate) struct Leaf<'a> {
     pub mill: &'a Mill,

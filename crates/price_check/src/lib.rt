@@ -1,10 +1,10 @@
 //! The leaves of a certificate: the path of decisions down to one, and whether its prices refute the limits there.
 //!
 //! The modules are read in this order: `path` (what others call), `trail` and `questions` (the decisions), `quote` and `rules`
-//! (the numbers of a leaf), `leaf` and `costs` (a mill with its decisions and prices), `groups`, `gains` and `apart` (orders
-//! that move as one), `frame` and `prepare` with `chains`, `links`, `ends`, `worths` and
-//! `ranking` (what stands through a test), `sets`, `gather`,
-//! `grid` and `table` (sets of colours and their groups), `walk` and `offer` (the columns of a set).
+//! (the numbers of a leaf), `leaf`, `costs` and `sizes` (a mill with its decisions and prices), `groups`, `gains` and `apart`
+//! (orders that move as one), `frame` and `prepare` with `chains`, `links`, `ends`, `worths` and `ranking` (what stands through
+//! a test), `workspace`, `search`, `sets`, `queue`, `gather`, `grid` and `table` (sets of colours and their groups), `hunt`,
+//! `walk`, `picks` and `offer` (the columns of a set).
 #![tactic(auto)]
 
 mod apart;
@@ -33,6 +33,8 @@ mod search;
 mod sets;
 mod sizes;
 mod table;
+#[cfg(test)]
+mod tests;
 mod trail;
 mod walk;
 mod workspace;

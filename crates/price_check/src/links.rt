@@ -1,12 +1,13 @@
 //! Numbers linked to chains by their keys.
-ghost use Rattle.std.specs.Prelude.{◌≡◌, ◌<◌, ◌≤◌, ℕ, length, slice_index, vec_capacity};
+ghost use Rattle.std.specs.Prelude.{◌+◌, ◌≡◌, ◌<◌, ◌≤◌, ℕ, length, slice_index, vec_capacity};
+ghost use Rattle.mill_model.specs.Mill.{most_colours, most_orders};
 ghost use Rattle.std.proofs.Math.ListN.{replicate};
-ghost use Rattle.price_check.specs.Chains.{IsChainedFrom};
-ghost use Rattle.price_check.specs.Frames.{AreChainsOf};
+ghost use Rattle.pricing_laws.specs.Chains.{AreChains, IsChainedFrom};
+ghost use Rattle.price_check.specs.Frames.{chains_of};
 
 use crate::chains::Chains;
 
-/// Fills a list with a value so many times.
+// Fills a list with a value so many times.
 fn refill(list: &mut Vec<u16>, value: u16, count: usize)
     requires { count ≤ vec_capacity list.old }
     ensures items { list.new.items ≡ replicate count value }
@@ -18,9 +19,9 @@ fn refill(list: &mut Vec<u16>, value: u16, count: usize)
     }
 }
 
-/// Puts the numbers, from the last to the first, before those of their key.
+// Puts the numbers, from the last to the first, before those of their key.
 fn link(keys: &[u16], first: &mut [u16], next: &mut [u16])
-    requires few { length keys.now ≤ 250 }
+    requires few { length keys.now ≤ most_orders }
     requires keys { (i : ℕ) → i < length keys.now → slice_index keys.now i < length first.old }
     requires none { IsChainedFrom (slice_index keys.now)
         (length keys.now) (length keys.now) first.old next.old }
@@ -36,12 +37,12 @@ fn link(keys: &[u16], first: &mut [u16], next: &mut [u16])
 }
 
 impl Chains {
-    /// Takes the numbers by their keys, which are below a count.
+    // Takes the numbers by their keys, which are below a count.
     pub(crate) fn fill(&mut self, keys: &[u16], count: usize)
-        requires few { length keys.now ≤ 250 }
-        requires count { count ≤ 251 }
+        requires few { length keys.now ≤ most_orders }
+        requires count { count ≤ most_colours + 1 }
         requires keys { (i : ℕ) → i < length keys.now → slice_index keys.now i < count }
-        ensures { AreChainsOf (slice_index keys.now) (length keys.now) count self.new }
+        ensures { AreChains (slice_index keys.now) (length keys.now) count (chains_of self.new) }
     {
         let end = keys.len() as u16;
         refill(&mut self.first, end, count);

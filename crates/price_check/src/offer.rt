@@ -4,14 +4,15 @@ ghost use Rattle.mill_model.specs.declared.kind.Kind.{Kind};
 ghost use Rattle.mill_model.specs.Columns.{IsInStock, has_barred, size_of};
 ghost use Rattle.mill_model.specs.LeastSizes.{IsOfLeastSize};
 ghost use Rattle.price_check.specs.Leaves.{problem_of};
-ghost use Rattle.price_check.specs.Finds.{IsAnswerIn, IsPack, IsColumn, IsOnNew, IsOnYard};
+ghost use Rattle.pricing_laws.specs.Packs.{IsPack, IsColumn, IsOnNew, IsOnYard};
+ghost use Rattle.price_check.specs.Finds.{IsAnswerIn};
 
 use crate::leaf::Leaf;
 use crate::sizes::least_size;
 use mill_model::Kind;
 
 impl Leaf<'_> {
-    /// Whether one of the orders mustn't lie on the slab.
+    // Whether one of the orders mustn't lie on the slab.
     fn has_barred(&self, kind: Kind, orders: &[u16]) -> bool
         ensures { result ≡ has_barred self.now.mill.now
             (record { kind = kind; orders = orders.now }) }
@@ -27,7 +28,7 @@ impl Leaf<'_> {
         false
     }
 
-    /// A slab that holds the orders, if they exceed on it and that column is allowed.
+    // A slab that holds the orders, if they exceed on it and that column is allowed.
     fn offer_on(&self, kind: Kind, weight: u32, gain: i128, orders: &[u16]) -> Option<Kind>
         requires pack { IsPack (problem_of self.now) orders.now weight gain }
         requires stock { IsInStock self.now.mill.now kind }
@@ -44,7 +45,7 @@ impl Leaf<'_> {
         Some(kind)
     }
 
-    /// The least new slab that holds the orders, if they exceed on it and that column is allowed.
+    // The least new slab that holds the orders, if they exceed on it and that column is allowed.
     fn offer_new(&self, weight: u32, gain: i128, orders: &[u16]) -> Option<Kind>
         requires { IsPack (problem_of self.now) orders.now weight gain }
         ensures { IsAnswerIn self.now orders.now result (IsOnNew orders.now) }
@@ -53,7 +54,7 @@ impl Leaf<'_> {
         self.offer_on(Kind::New(size), weight, gain, orders)
     }
 
-    /// A surplus slab, if it holds the orders, they exceed on it and that column is allowed.
+    // A surplus slab, if it holds the orders, they exceed on it and that column is allowed.
     fn offer_old(&self, slab: u16, weight: u32, gain: i128, orders: &[u16]) -> Option<Kind>
         requires pack { IsPack (problem_of self.now) orders.now weight gain }
         requires stock { slab < length self.now.mill.now.yard }
@@ -65,7 +66,7 @@ impl Leaf<'_> {
         self.offer_on(Kind::Old(slab), weight, gain, orders)
     }
 
-    /// A surplus slab on which the orders exceed, where that column is allowed.
+    // A surplus slab on which the orders exceed, where that column is allowed.
     fn offer_yard(&self, weight: u32, gain: i128, orders: &[u16]) -> Option<Kind>
         requires { IsPack (problem_of self.now) orders.now weight gain }
         ensures { IsAnswerIn self.now orders.now result
@@ -81,7 +82,7 @@ impl Leaf<'_> {
         None
     }
 
-    /// A slab on which the orders exceed, where that column is allowed.
+    // A slab on which the orders exceed, where that column is allowed.
     pub(crate) fn offer(&self, weight: u32, gain: i128, orders: &[u16]) -> Option<Kind>
         requires { IsPack (problem_of self.now) orders.now weight gain }
         ensures { IsAnswerIn self.now orders.now result (λ c. c.orders ≡ orders.now) }

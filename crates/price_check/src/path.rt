@@ -53,7 +53,13 @@ impl Path {
     /// the largest size, but at most 1,048,576 bounds: less than 17.5 MB at the limits, of which less than 610 KB are no
     /// bounds.
     pub fn new(alloc: Global, mill: &Mill) -> Result<Path, AllocError>
-        ensures { IfOk result (λ p. p ≡ record { orders = length mill.now.orders; slabs = length mill.now.yard; decisions = []; bad = None }) }
+        ensures { IfOk result (λ p.
+            p ≡ record {
+              orders = length mill.now.orders;
+              slabs = length mill.now.yard;
+              decisions = [];
+              bad = None;
+            }) }
     {
         let orders = mill.orders().len();
         let slabs = mill.yard().len();
@@ -81,7 +87,10 @@ impl Path {
     pub fn push(&mut self, ask: Ask) -> bool
         requires { IsAskAmong self.old.orders self.old.slabs ask }
         ensures stands { (result ≡ false) ↔ Contains (asks_of self.old.decisions) ask }
-        ensures path { self.new ≡ record self.old { decisions = (if result then (ask, true) ∷ self.old.decisions else self.old.decisions); bad = None } }
+        ensures path { self.new ≡ record self.old {
+          decisions = (if result then (ask, true) ∷ self.old.decisions else self.old.decisions);
+          bad = None;
+        } }
         ensures asks { ArePath self.new.orders self.new.slabs self.new.decisions }
     {
         self.bad = None;
@@ -96,7 +105,10 @@ impl Path {
     /// left from yes to no. It answers false where none is left, and the path is then empty.
     pub fn next_branch(&mut self) -> bool
         ensures left { IsTrue result ↔ IsSome (branch_after self.old.decisions) }
-        ensures path { self.new ≡ record self.old { decisions = unwrap_or (branch_after self.old.decisions) []; bad = None } }
+        ensures path { self.new ≡ record self.old {
+          decisions = unwrap_or (branch_after self.old.decisions) [];
+          bad = None;
+        } }
         ensures asks { ArePath self.new.orders self.new.slabs self.new.decisions }
     {
         self.bad = None;
@@ -106,7 +118,8 @@ impl Path {
     /// Whether a column agrees with each decision. It takes no memory.
     pub fn agrees(&self, kind: Kind, orders: &[u16]) -> bool
         requires { Rises 0 self.now.orders orders.now }
-        ensures value { result ≡ column_agrees self.now.decisions (record { kind = kind; orders = orders.now }) }
+        ensures value { result ≡ column_agrees self.now.decisions
+            (record { kind = kind; orders = orders.now }) }
         ensures path { ArePath self.now.orders self.now.slabs self.now.decisions }
     {
         self.trail.agrees(kind, orders)
@@ -118,11 +131,14 @@ impl Path {
     pub fn leaf_ok(&mut self, mill: &Mill, limits: Limits, numbers: &Nums<'_>) -> Result<(), Bad>
         requires orders { self.old.orders ≡ length mill.now.orders }
         requires slabs { self.old.slabs ≡ length mill.now.yard }
-        ensures refutes { OnOk result (HasCount mill.now numbers.now × Refutes mill.now limits self.old.decisions (prices_of (length mill.now.orders) numbers.now)) }
+        ensures refutes { OnOk result (HasCount mill.now numbers.now
+            × Refutes mill.now limits self.old.decisions
+            (prices_of (length mill.now.orders) numbers.now)) }
         ensures first { IfErr result (BreaksFirst mill.now limits self.old.decisions numbers.now) }
         ensures path { self.new ≡ record self.old { bad = self.new.bad } }
         ensures found { (result ≡ Err Bad.Column) ↔ IsSome self.new.bad }
-        ensures exceeds { IfSome self.new.bad (IsExceeding mill.now self.old.decisions (prices_of (length mill.now.orders) numbers.now)) }
+        ensures exceeds { IfSome self.new.bad (IsExceeding mill.now self.old.decisions
+            (prices_of (length mill.now.orders) numbers.now)) }
     {
         self.bad = None;
         if numbers.len() != 2 + mill.orders().len() + mill.yard().len() {

@@ -1,6 +1,9 @@
 //! Filling in what stands through the test of a leaf.
 ghost use Rattle.std.specs.Prelude.{◌≡◌, ◌+◌, ◌≤◌, length, vec_capacity};
-ghost use Rattle.price_check.specs.Frames.{AreColourKeys, IsFrame};
+ghost use Rattle.mill_model.specs.Mill.{most_orders};
+ghost use Rattle.pricing_laws.specs.Frames.{AreColourKeys, IsFrame};
+ghost use Rattle.price_check.specs.Frames.{AreMarkedIn, frame_of};
+ghost use Rattle.price_check.specs.Leaves.{problem_of};
 ghost use Rattle.price_check.specs.Ready.{HasFrameRoom};
 
 use crate::apart::fill_apart;
@@ -8,10 +11,10 @@ use crate::frame::Frame;
 use crate::leaf::Leaf;
 
 impl Leaf<'_> {
-    /// For each head its colour, and 0 for other orders.
+    // For each head its colour, and 0 for other orders.
     fn fill_keys(&self, heads: &[u16], keys: &mut Vec<u16>)
         requires size { length heads.now ≡ length self.now.mill.now.orders }
-        requires room { 250 ≤ vec_capacity keys.old }
+        requires room { most_orders ≤ vec_capacity keys.old }
         ensures size { length keys.new.items ≡ length heads.now }
         ensures keys { AreColourKeys self.now.mill.now heads.now keys.new.items }
         ensures room { vec_capacity keys.new ≡ vec_capacity keys.old }
@@ -26,10 +29,11 @@ impl Leaf<'_> {
         }
     }
 
-    /// Fills in what stands through the test.
+    // Fills in what stands through the test.
     pub(crate) fn fill_frame(&self, frame: &mut Frame)
         requires { HasFrameRoom (length self.now.mill.now.orders) frame.old }
-        ensures frame { IsFrame self.now frame.new }
+        ensures frame { IsFrame (problem_of self.now) (frame_of frame.new) }
+        ensures apart { AreMarkedIn self.now frame.new.apart.items }
         ensures room { HasFrameRoom (length self.now.mill.now.orders) frame.new }
     {
         let count = self.mill.orders().len();

@@ -1,13 +1,13 @@
 //! The numbers of a leaf, kept as prices.
 ghost use Rattle.std.specs.Prelude.{◌≡◌, ◌+◌, ◌≤◌, IfOk, length};
-ghost use Rattle.mill_model.specs.Prices.{ArePrices};
-ghost use Rattle.mill_model.specs.Prices.{prices_of};
+ghost use Rattle.mill_model.specs.Mill.{most_orders, most_slabs};
+ghost use Rattle.mill_model.specs.Prices.{ArePrices, prices_of};
 
 use cert_view::Nums;
 use std::alloc::{AllocError, Global};
 use std::marker::Model;
 
-/// The prices of a leaf, in room that is kept from leaf to leaf.
+// The prices of a leaf, in room that is kept from leaf to leaf.
 #[derive(Drop)]
 pub(crate) struct Quote {
     orders: usize,
@@ -29,8 +29,8 @@ impl Model for Quote {
 impl Quote {
     // Room for the prices of so many orders and surplus slabs.
     pub(crate) fn new(alloc: Global, orders: usize, slabs: usize) -> Result<Quote, AllocError>
-        requires few_orders { orders ≤ 250 }
-        requires few_slabs { slabs ≤ 40 }
+        requires few_orders { orders ≤ most_orders }
+        requires few_slabs { slabs ≤ most_slabs }
         ensures orders { IfOk result (λ q. length q.pi ≡ orders) }
         ensures slabs { IfOk result (λ q. length q.sigma ≡ slabs) }
     {

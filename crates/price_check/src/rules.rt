@@ -1,8 +1,9 @@
 //! The rules of a leaf that speak of no column.
 ghost use Rattle.std.specs.Prelude.{◌≡◌, ◌≤◌, ◌*◌, ◌^◌, ◌↔◌, IsTrue, All, length, unsigned_abs, pos, ◌≤ℤ◌, ◌*ℤ◌};
+ghost use Rattle.mill_model.specs.Mill.{most_orders, most_slabs};
 ghost use Rattle.mill_model.specs.Limits.{number_of};
 ghost use Rattle.mill_model.specs.SignedSums.{total_by};
-ghost use Rattle.mill_model.specs.Prices.{IsPrice, HasSigns, HasLimits, IsWorth};
+ghost use Rattle.mill_model.specs.Prices.{IsPrice, HasSigns, HasLimits, IsWorth, most_price};
 
 use crate::quote::Quote;
 use mill_model::Limits;
@@ -30,8 +31,8 @@ pub(crate) fn has_limits(limits: Limits, quote: &Quote) -> bool
 
 // Whether the orders are worth more than any slabs within the limits cost.
 pub(crate) fn is_worth(limits: Limits, quote: &Quote) -> bool
-    requires orders { length quote.now.pi ≤ 250 }
-    requires slabs { length quote.now.sigma ≤ 40 }
+    requires orders { length quote.now.pi ≤ most_orders }
+    requires slabs { length quote.now.sigma ≤ most_slabs }
     ensures { IsTrue result ↔ IsWorth limits quote.now }
 {
     let limited = product(quote.lambda(), limits.loss) + product(quote.mu(), limits.count);
@@ -50,10 +51,10 @@ fn product(price: i64, limit: Option<i64>) -> i128
 
 // The sum of some prices.
 fn total(prices: &[i64]) -> i128
-    requires few { length prices.now ≤ 250 }
+    requires few { length prices.now ≤ most_orders }
     requires range { All IsPrice prices.now }
     ensures value { result ≡ total_by (λ q. q) prices.now }
-    ensures small { unsigned_abs result ≤ 250 * 2 ^ 62 }
+    ensures small { unsigned_abs result ≤ most_orders * most_price }
 {
     let mut sum = 0;
     for price in prices {

@@ -7,8 +7,10 @@ ghost use Rattle.pricing_laws.specs.Parts.{left_of};
 ghost use Rattle.pricing_laws.specs.Problems.{ExceedAtMost};
 ghost use Rattle.pricing_laws.specs.Worths.{worth_of};
 ghost use Rattle.price_check.specs.Finds.{IsAnswerIn};
-ghost use Rattle.price_check.specs.Searches.{AreRanked, AreTakenFrom, IsOfSetIn, IsQueue};
+ghost use Rattle.pricing_laws.specs.Searches.{AreRanked, AreTakenFrom, IsOfSetIn, IsQueue};
 ghost use Rattle.price_check.specs.Leaves.{problem_of};
+ghost use Rattle.price_check.specs.Searches.{search_of};
+ghost use Rattle.price_check.specs.Searches.{queue_of};
 
 use crate::hunt::Hunt;
 use crate::picks::Picks;
@@ -17,7 +19,7 @@ use crate::search::Search;
 use mill_model::Kind;
 use std::alloc::{AllocError, Global};
 
-/// A set of colours that is gone through, and room for its groups.
+// A set of colours that is gone through, and room for its groups.
 #[derive(Drop)]
 pub(crate) struct Space {
     pub colours: Vec<u16>,
@@ -26,7 +28,7 @@ pub(crate) struct Space {
 }
 
 impl Space {
-    /// No colour yet.
+    // No colour yet.
     pub(crate) fn new(alloc: Global, queue: Queue) -> Result<Space, AllocError> {
         Ok(Space {
             colours: Vec::with_capacity(alloc, 3)?,
@@ -36,7 +38,7 @@ impl Space {
 }
 
 impl Search<'_> {
-    /// What a colour among the first ones of the ranking is worth at most.
+    // What a colour among the first ones of the ranking is worth at most.
     fn top(&self, rank: usize) -> i128
         requires { rank ≤ length self.now.frame.now.ranking.items }
         ensures most { (colour : ℕ)
@@ -51,22 +53,22 @@ impl Search<'_> {
         self.frame.worths[usize::from(self.frame.ranking[rank - 1])]
     }
 
-    /// Whether no column of the colours taken and of some of those left exceeds.
+    // Whether no column of the colours taken and of some of those left exceeds.
     fn is_hopeless(&self, rank: usize, left: u16, worth: i128) -> bool
         requires rank { rank ≤ length self.now.frame.now.ranking.items }
         requires left { left ≤ 3 }
         requires small { unsigned_abs worth ≤ 2 ^ 100 }
-        ensures { (taken : List ℕ) → AreTakenFrom self.now rank taken worth
+        ensures { (taken : List ℕ) → AreTakenFrom (search_of self.now) rank taken worth
             → OnTrue result
             (ExceedAtMost (problem_of self.now.leaf) (pos 0)
-            (IsOfSetIn self.now taken rank left)) }
+            (IsOfSetIn (search_of self.now) taken rank left)) }
     {
         worth + i128::from(left) * self.top(rank) <= self.frame.floor
     }
 
-    /// Looks for a column of the colours of a queue that exceeds.
+    // Looks for a column of the colours of a queue that exceeds.
     fn walk_queue(&self, colours: &[u16], queue: &Queue, picks: &mut Picks) -> Option<Kind>
-        requires queue { IsQueue self.now colours.now queue.now }
+        requires queue { IsQueue (search_of self.now) colours.now (queue_of queue.now) }
         requires chosen { picks.old.chosen.items ≡ [] }
         ensures chosen { IfNone result (picks.new.chosen.items ≡ []) }
         ensures answer { IsAnswerIn self.now.leaf picks.new.orders.items result
@@ -80,9 +82,9 @@ impl Search<'_> {
         hunt.walk(queue.heads.len(), 0, 0, picks)
     }
 
-    /// Looks for a column of some colours that exceeds.
+    // Looks for a column of some colours that exceeds.
     fn search_set(&self, colours: &[u16], queue: &mut Queue, picks: &mut Picks) -> Option<Kind>
-        requires ranked { AreRanked self.now colours.now }
+        requires ranked { AreRanked (search_of self.now) colours.now }
         requires chosen { picks.old.chosen.items ≡ [] }
         ensures chosen { IfNone result (picks.new.chosen.items ≡ []) }
         ensures answer { IsAnswerIn self.now.leaf picks.new.orders.items result
@@ -92,8 +94,8 @@ impl Search<'_> {
         self.walk_queue(colours, queue, picks)
     }
 
-    /// Looks for a column that exceeds of the colours taken and of at most so many of the first ones of the ranking. Where there
-    /// is one, its orders are listed then. A set is left out only where its bound isn't above 0.
+    // Looks for a column that exceeds of the colours taken and of at most so many of the first ones of the ranking. Where there
+    // is one, its orders are listed then. A set is left out only where its bound isn't above 0.
     pub(crate) fn search_sets(
         &self,
         rank: usize,
@@ -104,12 +106,12 @@ impl Search<'_> {
     ) -> Option<Kind>
         requires rank { rank ≤ length self.now.frame.now.ranking.items }
         requires few { length space.old.colours.items + left ≤ self.now.leaf.mill.now.colour_limit }
-        requires taken { AreTakenFrom self.now rank space.old.colours.items worth }
+        requires taken { AreTakenFrom (search_of self.now) rank space.old.colours.items worth }
         requires chosen { picks.old.chosen.items ≡ [] }
         ensures colours { IfNone result (space.new.colours.items ≡ space.old.colours.items) }
         ensures chosen { IfNone result (picks.new.chosen.items ≡ []) }
         ensures answer { IsAnswerIn self.now.leaf picks.new.orders.items result
-            (IsOfSetIn self.now space.old.colours.items rank left) }
+            (IsOfSetIn (search_of self.now) space.old.colours.items rank left) }
     {
         if self.is_hopeless(rank, left, worth) {
             return None;

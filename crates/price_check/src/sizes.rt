@@ -4,7 +4,8 @@ ghost use Rattle.mill_model.specs.LeastSizes.{IsAnswer};
 
 // The lesser of the least size so far and one more size, of those that hold the weight.
 fn lesser(found: Option<u16>, size: u16, weight: u32) -> Option<u16>
-    ensures { (sizes : List ℕ) → IsAnswer sizes weight found → IsAnswer (sizes ++ size ∷ []) weight result }
+    ensures { (sizes : List ℕ) → IsAnswer sizes weight found
+        → IsAnswer (sizes ++ size ∷ []) weight result }
 {
     if u32::from(size) < weight {
         return found;

@@ -1,5 +1,6 @@
 //! Decisions one after another, with a mark for each question that is answered.
 ghost use Rattle.std.specs.Prelude.{◌≡◌, ◌≤◌, ◌∷◌, ◌↔◌, [], true, IfOk, IsSome, IsTrue, unwrap_or, MatchOption, Contains, reverse};
+ghost use Rattle.mill_model.specs.Mill.{most_orders, most_slabs};
 ghost use Rattle.mill_model.specs.Columns.{has, is_old};
 ghost use Rattle.mill_model.specs.Decisions.{agrees, column_agrees};
 ghost use Rattle.mill_model.specs.Paths.{next_branch as branch_after};
@@ -11,7 +12,7 @@ use mill_model::{Ask, Kind};
 use std::alloc::{AllocError, Global};
 use std::marker::Model;
 
-/// Decisions one after another, no question twice. Whether a question stands among them is one look at its mark.
+// Decisions one after another, no question twice. Whether a question stands among them is one look at its mark.
 #[derive(Drop)]
 pub(crate) struct Trail {
     orders: usize,
@@ -29,9 +30,14 @@ impl Model for Trail {
     ghost use Rattle.std.specs.Vec.{vec_capacity};
     ghost use Rattle.price_check.specs.Marks.{IsMarkedTrail};
 
-    ghost view = { λ t. record { orders = t.orders; slabs = t.slabs; decisions = reverse t.decisions.items } };
+    ghost view = { λ t. record {
+      orders = t.orders;
+      slabs = t.slabs;
+      decisions = reverse t.decisions.items;
+    } };
 
-    ghost invariant = { λ t. IsMarkedTrail t.orders t.slabs (reverse t.decisions.items) t.marks.items (vec_capacity t.decisions) };
+    ghost invariant = { λ t. IsMarkedTrail t.orders t.slabs
+        (reverse t.decisions.items) t.marks.items (vec_capacity t.decisions) };
 }
 
 impl Trail {
@@ -39,8 +45,8 @@ impl Trail {
 
     // No decisions, and the memory for an answer to each question.
     pub(crate) fn new(alloc: Global, orders: usize, slabs: usize) -> Result<Trail, AllocError>
-        requires few_orders { orders ≤ 250 }
-        requires few_slabs { slabs ≤ 40 }
+        requires few_orders { orders ≤ most_orders }
+        requires few_slabs { slabs ≤ most_slabs }
         ensures { IfOk result (λ t. t ≡ record { orders = orders; slabs = slabs; decisions = [] }) }
     {
         let count = ask_count(orders, slabs);
@@ -78,7 +84,8 @@ impl Trail {
     // Takes off the latest decision, if there is one.
     pub(crate) fn pop(&mut self) -> Option<(Ask, bool)>
         ensures { MatchOption result ((self.old.decisions ≡ []) × (self.new ≡ self.old))
-            (λ d. (self.old ≡ record self.new { decisions = d ∷ self.new.decisions }) × IsAskAmong self.new.orders self.new.slabs d.0 × IsFresh d.0 self.new.decisions) }
+            (λ d. (self.old ≡ record self.new { decisions = d ∷ self.new.decisions })
+            × IsAskAmong self.new.orders self.new.slabs d.0 × IsFresh d.0 self.new.decisions) }
     {
         let (ask, answer) = self.decisions.pop()?;
         let place = place_of(self.orders, self.slabs, ask);
@@ -96,7 +103,9 @@ impl Trail {
     // Takes off the latest decisions whose answer is no, and turns the one before them from yes to no, if there is one.
     pub(crate) fn next_branch(&mut self) -> bool
         ensures left { IsTrue result ↔ IsSome (branch_after self.old.decisions) }
-        ensures branch { self.new ≡ record self.old { decisions = unwrap_or (branch_after self.old.decisions) [] } }
+        ensures branch { self.new ≡ record self.old {
+          decisions = unwrap_or (branch_after self.old.decisions) [];
+        } }
         ensures path { ArePath self.new.orders self.new.slabs self.new.decisions }
     {
         while let Some((ask, answer)) = self.pop() {
@@ -118,7 +127,8 @@ impl Trail {
 
     // Whether a column agrees with each decision.
     pub(crate) fn agrees(&self, kind: Kind, orders: &[u16]) -> bool
-        ensures value { result ≡ column_agrees self.now.decisions (record { kind = kind; orders = orders.now }) }
+        ensures value { result ≡ column_agrees self.now.decisions
+            (record { kind = kind; orders = orders.now }) }
         ensures path { ArePath self.now.orders self.now.slabs self.now.decisions }
     {
         agrees_with_all(&self.decisions, kind, orders)

@@ -1,5 +1,6 @@
 //! Room for the test of a leaf.
-ghost use Rattle.std.specs.Prelude.{◌≤◌, IfOk, IfNone, IfSome, length};
+ghost use Rattle.std.specs.Prelude.{◌+◌, ◌≤◌, IfOk, IfNone, IfSome, length};
+ghost use Rattle.mill_model.specs.Mill.{most_orders, most_weight};
 ghost use Rattle.price_check.specs.Exceeding.{IsExceeding};
 ghost use Rattle.mill_model.specs.Prices.{NoneExceeds};
 ghost use Rattle.price_check.specs.Ready.{HasSpace};
@@ -13,7 +14,7 @@ use crate::sets::Space;
 use mill_model::Kind;
 use std::alloc::{AllocError, Global};
 
-/// Room for the test of a leaf.
+// Room for the test of a leaf.
 #[derive(Drop)]
 pub(crate) struct Workspace {
     pub frame: Frame,
@@ -22,10 +23,10 @@ pub(crate) struct Workspace {
 }
 
 impl Workspace {
-    /// Room for so many orders and loads.
+    // Room for so many orders and loads.
     pub(crate) fn new(alloc: Global, orders: usize, loads: usize) -> Result<Workspace, AllocError>
-        requires orders { orders ≤ 250 }
-        requires loads { loads ≤ 10001 }
+        requires orders { orders ≤ most_orders }
+        requires loads { loads ≤ most_weight + 1 }
         ensures { IfOk result (HasSpace orders) }
     {
         Ok(Workspace {
@@ -37,7 +38,7 @@ impl Workspace {
 }
 
 impl Leaf<'_> {
-    /// Looks for a column that exceeds. Where there is one, its orders are listed then.
+    // Looks for a column that exceeds. Where there is one, its orders are listed then.
     pub(crate) fn search(&self, workspace: &mut Workspace) -> Option<Kind>
         requires { HasSpace (length self.now.mill.now.orders) workspace.old }
         ensures space { HasSpace (length self.now.mill.now.orders) workspace.new }

@@ -1,5 +1,5 @@
 -- The steps of a walk over the groups of a queue.
-use Rattle.std.proofs.Common.{◌≡◌, ◌⊎◌, inl, inr, ℕ, ◌+◌, ◌*◌, ◌^◌, ◌<◌, ◌≤◌, pos, ◌+ℤ◌, ◌≤ℤ◌, ℤ, true, List, [], ◌∷◌, ◌++◌, length, get_or, refl, sym, subst, ap, ◌∙◌, arith, append_assoc, append-nil}
+use Rattle.std.proofs.Common.{◌≡◌, ◌⊎◌, inl, inr, ℕ, ◌+◌, ◌*◌, ◌^◌, ◌<◌, ◌≤◌, ◌+ℤ◌, ◌≤ℤ◌, ℤ, true, List, [], ◌∷◌, ◌++◌, length, get_or, refl, sym, subst, ap, ◌∙◌, arith, append_assoc, append-nil}
 use Rattle.std.specs.Prelude.{◌-ℤ◌, unsigned_abs}
 use Rattle.std.specs.List.{sum_by}
 use Rattle.std.proofs.lemmas.Int.{ints}
@@ -32,9 +32,6 @@ total_small f n (x ∷ xs) inside h =
     sums a b c n k e q i j = omega (arith, ints)
 
 -- ---- what is chosen
-
-pub chosen_none : (g : Groups) (queue : List ℕ) → AreChosen g queue (length queue) [] 0 (pos 0)
-chosen_none g queue = record { part = λ more part. part; count = omega arith; weight_is = refl; gain_is = refl }
 
 -- a group is left out
 pub chosen_later : (g : Groups) (queue : List ℕ) (left : ℕ) (chosen : List ℕ) (weight : ℕ) (gain : ℤ) → AreChosen g queue (left + 1) chosen weight gain → AreChosen g queue left chosen weight gain

@@ -2,12 +2,10 @@
 use Rattle.std.proofs.Common.{◌≡◌, ℕ, ◌-◌, ◌≤◌, pos, ◌+ℤ◌, ◌≤ℤ◌, ℤ, List, ap, ◌∙◌, arith}
 use Rattle.std.specs.Prelude.{◌-ℤ◌, ◌*ℤ◌}
 use Rattle.std.proofs.lemmas.Int.{ints}
-use Rattle.std.proofs.lemmas.List.Elements.{All-contains}
-use Rattle.mill_model.specs.declared.kind.Kind.{Kind}
-use Rattle.mill_model.specs.declared.kind.Kind.TheVariants.{New, Old}
-use Rattle.mill_model.specs.Mill.{Mill, IsInLimits, IsBetween}
+use Rattle.mill_model.specs.declared.kind.Kind.TheVariants.{New}
+use Rattle.mill_model.specs.Mill.{Mill}
 use Rattle.mill_model.specs.SignedSums.{total_by}
-use Rattle.mill_model.specs.Columns.{Column, IsInStock, loss_of, load, order_at, size_of}
+use Rattle.mill_model.specs.Columns.{Column, loss_of, load, order_at, size_of}
 use Rattle.mill_model.specs.Prices.{Prices, IsPriced, price_at, charge}
 use Rattle.mill_model.proofs.Signed.{mul_add, mul_le, total_by-add, total_by-pos, total_by-scale}
 use Rattle.pricing_laws.specs.Problems.{excess}
@@ -45,7 +43,3 @@ excess_split m p c le = omega (arith, ints, gains_split m p c.orders, size_split
 -- a larger new slab costs no less
 pub cost_rises : (m : Mill) (p : Prices) (small large : ℕ) → pos 0 ≤ℤ p.lambda → small ≤ large → cost_of m p (New small) ≤ℤ cost_of m p (New large)
 cost_rises m p small large sign le = omega (arith, ints, mul_le p.lambda (pos small) (pos large) sign (omega (arith, ints)))
-
-pub stock_small : (m : Mill) (kind : Kind) → IsInLimits m → IsInStock m kind → size_of m kind ≤ 10000
-stock_small m (New size) limits listed = (All-contains (IsBetween 1 10000) m.sizes size limits.sizes listed).1
-stock_small m (Old s) limits inside = (limits.yard.sizes s 0 inside).1

@@ -172,9 +172,6 @@ pub record AreTotals (f : ℕ → ℤ) (heads : List ℕ) (o : ℕ) (totals : Li
   pub size : length totals ≡ length heads
   pub total : (h : ℕ) → h < length heads → get_or totals h (pos 0) ≡ total_by f (members (take o heads) (h ∷ []))
 
-pub totals_none : (f : ℕ → ℤ) (heads : List ℕ) (totals : List ℤ) → length totals ≡ length heads → ((h : ℕ) → h < length heads → get_or totals h (pos 0) ≡ pos 0) → AreTotals f heads 0 totals
-totals_none f heads totals size zeros = record { size = size; total = zeros }
-
 -- one order more
 pub totals_more : (f : ℕ → ℤ) (heads : List ℕ) (o : ℕ) (totals : List ℤ) → o < length heads → head_of heads o < length heads → AreTotals f heads o totals → AreTotals f heads (o + 1) (set totals (head_of heads o) (get_or totals (head_of heads o) (pos 0) +ℤ f o))
 totals_more f heads o totals l b are = record { size = omega (arith, are.size, length-set totals (head_of heads o) (get_or totals (head_of heads o) (pos 0) +ℤ f o)); total = total }
@@ -217,9 +214,6 @@ pub record AreSums (f : ℕ → ℕ) (heads : List ℕ) (o : ℕ) (sums : List �
   pub size : length sums ≡ length heads
   pub sum : (h : ℕ) → h < length heads → get_or sums h 0 ≡ sum_by f (members (take o heads) (h ∷ []))
 
-pub sums_none : (f : ℕ → ℕ) (heads : List ℕ) (sums : List ℕ) → length sums ≡ length heads → ((h : ℕ) → h < length heads → get_or sums h 0 ≡ 0) → AreSums f heads 0 sums
-sums_none f heads sums size zeros = record { size = size; sum = zeros }
-
 -- one order more
 pub sums_more : (f : ℕ → ℕ) (heads : List ℕ) (o : ℕ) (sums : List ℕ) → o < length heads → head_of heads o < length heads → AreSums f heads o sums → AreSums f heads (o + 1) (set sums (head_of heads o) (get_or sums (head_of heads o) 0 + f o))
 sums_more f heads o sums l b are = record { size = omega (arith, are.size, length-set sums (head_of heads o) (get_or sums (head_of heads o) 0 + f o)); sum = sum }
@@ -253,14 +247,6 @@ sum_alike P f g [] h e = refl
 sum_alike P f g (x ∷ xs) h e = omega (arith, sum_by-cons f x xs, sum_by-cons g x xs, e x (h x (has_here x xs)), sum_alike P f g xs (λ y q. h y (has_later y x xs q)) e)
 
 -- ---- heads
-
--- each order alone
-pub heads_alone : (heads : List ℕ) → ((o : ℕ) → o < length heads → head_of heads o ≡ o) → AreHeads [] heads
-heads_alone heads alone = record {
-  before = λ o h. omega (arith, alone o h);
-  fixed = λ o h. ap (head_of heads) (alone o h);
-  joined = λ c agree o h. ap (has c.orders) (sym (alone o h));
-}
 
 -- more decisions leave the heads
 pub heads_stay : (decisions more : List Decision) (heads : List ℕ) → ((c : Column) → column_agrees more c ≡ true → column_agrees decisions c ≡ true) → AreHeads decisions heads → AreHeads more heads

@@ -9,3 +9,10 @@ pub mod Colours
 pub mod Choices
 pub mod Worths
 pub mod Rankings
+pub mod Chains
+pub mod Gathering
+pub mod Hunting
+pub mod Packs
+pub mod Ranks
+pub mod Products
+pub mod Pairs

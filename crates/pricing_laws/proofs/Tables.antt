@@ -90,9 +90,6 @@ module _ (g : Groups) (queue : List ℕ) (ends : List ℤ) (step width : ℕ) (t
           t.most at (column + weight_at g (get_or queue at 0) / step) ys size value within (omega (arith, long, within)) part end reach in
           omega (arith, ints, gains, rest, with within)
 
-pub table_none : (g : Groups) (queue : List ℕ) (ends : List ℤ) (step width : ℕ) (table : List ℤ) → length table ≡ 0 → IsTable g queue ends step width table
-table_none g queue ends step width table none = record { most = λ left column more size value inside h part end holds. absurd (omega (arith, none, h)); small = λ k h. absurd (omega (arith, none, h)) }
-
 -- ---- what the bounds say of slabs
 
 -- a load within the ends lies in a column

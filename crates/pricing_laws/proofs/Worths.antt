@@ -1,5 +1,5 @@
 -- What columns exceed by at most, by the worths of their groups.
-use Rattle.std.proofs.Common.{◌≡◌, inl, inr, ℕ, zero, suc, append-nil, ◌+◌, ◌-◌, ◌*◌, ◌^◌, ◌<◌, ◌≤◌, pos, ◌+ℤ◌, ◌≤ℤ◌, ℤ, true, eqb, List, [], ◌∷◌, ◌++◌, length, get_or, set, refl, sym, subst, ap, ◌∙◌, arith, get_or-set_same, get_or-set_other, length-set, append_assoc}
+use Rattle.std.proofs.Common.{◌≡◌, inl, inr, ℕ, zero, suc, append-nil, ◌+◌, ◌-◌, ◌*◌, ◌^◌, ◌<◌, ◌≤◌, pos, ◌+ℤ◌, ◌≤ℤ◌, ℤ, true, eqb, List, [], ◌∷◌, ◌++◌, length, get_or, set, sym, subst, ap, ◌∙◌, arith, get_or-set_same, get_or-set_other, length-set, append_assoc}
 use Rattle.std.specs.Prelude.{◌-ℤ◌, ◌*ℤ◌, unsigned_abs}
 use Rattle.std.specs.List.{sum_by}
 use Rattle.std.proofs.lemmas.Int.{ints}
@@ -144,9 +144,6 @@ top_of m worths ranking rank ranked h c e = at (place_in_left ranking (rank + 1)
   where
     at : ((k : ℕ) × (k < rank + 1) × (get_or ranking k 0 ≡ c)) → worth_of worths c ≤ℤ worth_of worths (get_or ranking rank 0)
     at (k, l, s) = omega (arith, ints, ap (worth_of worths) s, ranked.rises k rank (omega (arith, l)) h)
-
-pub taken_none : (worths : List ℤ) (ranking : List ℕ) → AreTaken worths ranking (length ranking) [] (pos 0)
-taken_none worths ranking = record { part = λ more part. part; worth_is = refl }
 
 -- a colour is left out
 pub taken_later : (worths : List ℤ) (ranking : List ℕ) (rank : ℕ) (taken : List ℕ) (worth : ℤ) → AreTaken worths ranking (rank + 1) taken worth → AreTaken worths ranking rank taken worth

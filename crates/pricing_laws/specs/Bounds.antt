@@ -2,7 +2,7 @@
 use Rattle.std.specs.Prelude.{ℕ, ◌+◌, ◌-◌, ◌*◌, ◌/◌, ◌^◌, ◌<◌, ◌≤◌, ℤ, pos, ◌+ℤ◌, ◌-ℤ◌, ◌≤ℤ◌, unsigned_abs, List, length, slice_index_or}
 use Rattle.std.specs.List.{sum_by}
 use Rattle.mill_model.specs.declared.kind.Kind.{Kind}
-use Rattle.mill_model.specs.Mill.{Mill}
+use Rattle.mill_model.specs.Mill.{Mill, most_weight}
 use Rattle.mill_model.specs.SignedSums.{total_by}
 use Rattle.mill_model.specs.Columns.{IsInStock, size_of}
 use Rattle.mill_model.specs.Prices.{Prices}
@@ -10,12 +10,16 @@ use Rattle.pricing_laws.specs.Gains.{cost_of}
 use Rattle.pricing_laws.specs.Groupings.{Groups, weight_at, gain_at}
 use Rattle.pricing_laws.specs.Parts.{IsPart, left_of}
 
+-- the slab costs no less than this with its sign turned, if it holds the load
+abbrev pub IsEndOf : Mill → Prices → ℕ → Kind → ℤ → Type 0
+IsEndOf m p load kind end = IsInStock m kind → load ≤ size_of m kind → (pos 0 -ℤ cost_of m p kind) ≤ℤ end
+
 -- for each load, no less than what a slab that holds it costs, with its sign turned
 pub record AreEnds (m : Mill) (p : Prices) (ends : List ℤ) : Type 0 where
   pub room : (kind : Kind) → IsInStock m kind → size_of m kind < length ends
   pub some : 0 < length ends
-  pub narrow : length ends ≤ 10001
-  pub least : (load : ℕ) (kind : Kind) → IsInStock m kind → load ≤ size_of m kind → (pos 0 -ℤ cost_of m p kind) ≤ℤ slice_index_or ends load (pos 0)
+  pub narrow : length ends ≤ most_weight + 1
+  pub least : (load : ℕ) (kind : Kind) → IsEndOf m p load kind (slice_index_or ends load (pos 0))
   pub small : (load : ℕ) → load < length ends → unsigned_abs (slice_index_or ends load (pos 0)) ≤ 2 ^ 100
 
 -- no part of the groups left gains more than this beside a load, less the cost of a slab that holds both

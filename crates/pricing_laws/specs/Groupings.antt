@@ -1,6 +1,6 @@
 -- The orders of a mill in groups that move as one, with what each group weighs and gains.
 use Rattle.std.specs.Prelude.{◌≡◌, ℕ, ◌*◌, ◌^◌, ◌<◌, ◌≤◌, ℤ, pos, unsigned_abs, List, [], ◌∷◌, length, slice_index_or}
-use Rattle.mill_model.specs.Mill.{Mill}
+use Rattle.mill_model.specs.Mill.{Mill, most_orders, most_weight}
 use Rattle.mill_model.specs.Columns.{load}
 use Rattle.mill_model.specs.Decisions.{Decision}
 use Rattle.pricing_laws.specs.Groups.{AreHeads, members}
@@ -33,13 +33,13 @@ AreBefore heads = (o : ℕ) → o < length heads → slice_index_or heads o 0 �
 pub record AreWeights (m : Mill) (heads : List ℕ) (weights : List ℕ) : Type 0 where
   pub size : length weights ≡ length heads
   pub weight : (head : ℕ) → head < length heads → slice_index_or weights head 0 ≡ load m (members heads (head ∷ []))
-  pub light : (head : ℕ) → head < length heads → slice_index_or weights head 0 ≤ 250 * 10000
+  pub light : (head : ℕ) → head < length heads → slice_index_or weights head 0 ≤ most_orders * most_weight
 
 -- what each group gains alone
 pub record AreGains (m : Mill) (p : Prices) (heads : List ℕ) (gains : List ℤ) : Type 0 where
   pub size : length gains ≡ length heads
   pub gain : (head : ℕ) → head < length heads → slice_index_or gains head (pos 0) ≡ gains_of m p (members heads (head ∷ []))
-  pub small : (head : ℕ) → head < length heads → unsigned_abs (slice_index_or gains head (pos 0)) ≤ 250 * 2 ^ 76
+  pub small : (head : ℕ) → head < length heads → unsigned_abs (slice_index_or gains head (pos 0)) ≤ most_orders * 2 ^ 76
 
 -- the groups that the decisions join, weighed and priced
 pub record AreGroups (m : Mill) (decisions : List Decision) (p : Prices) (g : Groups) : Type 0 where

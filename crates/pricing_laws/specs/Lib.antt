@@ -7,3 +7,9 @@ pub mod Colours
 pub mod Worths
 pub mod Bounds
 pub mod Choices
+pub mod Chains
+pub mod Frames
+pub mod Grids
+pub mod Searches
+pub mod Hunts
+pub mod Packs

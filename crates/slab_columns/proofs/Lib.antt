@@ -1,3 +1,4 @@
 pub mod Places
+pub mod FlatColumns
 pub mod Growth
 pub mod Legal

@@ -3,11 +3,12 @@ ghost use Rattle.mill_model.specs.Columns.{IsLegalColumn};
 ghost use Rattle.slab_counter.specs.Counter.{next_count};
 ghost use Rattle.slab_columns.specs.Columns.{column_of, lent_column};
 ghost use Rattle.slab_columns.specs.Index.{key_of};
+ghost use Rattle.slab_columns.specs.Recency.{AreBelow};
 
+use crate::flat::{append_column, find_among, lent};
 use crate::index::{Index, ids_of, key_of, note};
 use crate::mill_copy::copy_of;
-use crate::stored::find_among;
-use crate::{AddError, ColId, Column, Fulls, Stored};
+use crate::{AddError, Basics, ColId, Column, Fulls, Start};
 use indexmap::IndexMap;
 use mill_model::{Kind, Mill};
 use std::alloc::{AllocError, Global};
@@ -16,28 +17,31 @@ use std::marker::Model;
 // A pool holds at most so many columns.
 const MOST_COLUMNS: usize = 8192;
 
-/// Columns that are legal for a mill and distinct, in the order in which they came: at most 8,192.
+/// Columns that are legal for a mill and distinct, in the order in which they came: at most 8,192. All orders stand in one
+/// vector. Beside what contracts see, a pool remembers which of its columns were basic last.
 #[derive(Drop)]
 pub struct Pool {
     mill: Mill,
-    columns: Vec<Stored>,
+    orders: Vec<u16>,
+    starts: Vec<Start>,
     index: Index,
+    basics: Basics,
 }
 
 impl Model for Pool {
-    ghost use Rattle.std.specs.Prelude.{map};
-    ghost use Rattle.slab_columns.specs.Pool.{Pool, IsPool};
+    ghost use Rattle.slab_columns.specs.Pool.{Pool};
 
     ghost Value = { Pool };
 
-    ghost use Rattle.slab_columns.specs.Columns.{stored_column};
-    ghost use Rattle.slab_columns.specs.Index.{IsIndex};
+    ghost use Rattle.slab_columns.specs.Flat.{columns_of};
+    ghost use Rattle.slab_columns.specs.Kept.{IsKept};
 
-    ghost view = { λ p. record { mill = p.mill; columns = map stored_column p.columns.items } };
+    ghost view = { λ p. record { mill = p.mill; columns = columns_of p.orders.items p.starts.items } };
 
-    ghost invariant = { λ p. IsPool (record { mill = p.mill; columns = map stored_column p.columns.items }) × IsIndex (map stored_column p.columns.items) p.index };
+    ghost invariant = { λ p. IsKept p.mill p.orders.items p.starts.items p.index p.basics };
 }
 
+#[tactic(auto, using(crate::proofs::FlatColumns::layout_facts))]
 impl Pool {
     ghost use Rattle.slab_columns.specs.Pool.{IsPool, HasGrown};
 
@@ -47,8 +51,10 @@ impl Pool {
     {
         Ok(Pool {
             mill: copy_of(alloc, mill)?,
-            columns: Vec::new(alloc),
+            orders: Vec::new(alloc),
+            starts: Vec::new(alloc),
             index: IndexMap::new(alloc),
+            basics: Basics::new(alloc),
         })
     }
 
@@ -58,7 +64,7 @@ impl Pool {
         ensures value { result ≡ length self.now.columns }
         ensures pool { IsPool self.now }
     {
-        self.columns.len()
+        self.starts.len()
     }
 
     /// Whether the pool has no column.
@@ -66,7 +72,7 @@ impl Pool {
     pub fn is_empty(&self) -> bool
         ensures { IsTrue result ↔ (length self.now.columns ≡ 0) }
     {
-        self.columns.is_empty()
+        self.starts.is_empty()
     }
 
     /// Lends a column, without a copy.
@@ -77,7 +83,7 @@ impl Pool {
         ensures legal { IsLegalColumn self.now.mill (lent_column result) }
         ensures pool { IsPool self.now }
     {
-        self.columns[id.0 as usize].lend()
+        lent(&self.orders, &self.starts, id.0 as usize)
     }
 
     /// The number of a column, unless the pool lacks it.
@@ -96,7 +102,8 @@ impl Pool {
         ensures within { IfSome result (λ id. id.0 < length self.now.columns) }
         ensures none { IfNone result (¬ Contains self.now.columns (column_of kind orders.now)) }
     {
-        match find_among(&self.columns, ids_of(&self.index, key), kind, orders) {
+        let ids = ids_of(&self.index, key);
+        match find_among(&self.orders, &self.starts, ids, kind, orders) {
             Some(id) => Some(ColId(id)),
             None => None,
         }
@@ -135,15 +142,16 @@ impl Pool {
         if let Some(id) = self.find_by_key(key, kind, orders) {
             return Ok(id);
         }
-        let id = self.columns.len();
+        let id = self.starts.len();
         if id == MOST_COLUMNS {
             fulls.raise();
             return Err(AddError::Full);
         }
-        let column = Stored::new(alloc, kind, orders)?;
-        self.columns.reserve(1)?;
+        self.orders.reserve(orders.len())?;
+        self.starts.reserve(1)?;
+        self.basics.reserve()?;
         note(alloc, &mut self.index, key, id as u16)?;
-        self.columns.push_reserved(column);
+        append_column(&mut self.orders, &mut self.starts, kind, orders);
         Ok(ColId(id as u16))
     }
 
@@ -151,7 +159,26 @@ impl Pool {
     pub fn restart(&mut self)
         ensures { self.new ≡ record self.old { columns = [] } }
     {
-        self.columns.clear();
+        self.orders.clear();
+        self.starts.clear();
         self.index.clear();
+        self.basics.clear();
+    }
+
+    /// Remembers that these columns were basic, the first of them last. It takes no memory.
+    pub fn note_basic(&mut self, ids: &[ColId])
+        requires { AreBelow (length self.old.columns) ids.now }
+        ensures { self.new ≡ self.old }
+    {
+        self.basics.note(ids);
+    }
+
+    /// The columns that were basic, the latest first.
+    #[inline]
+    pub fn recent(&self) -> &[ColId]
+        ensures below { AreBelow (length self.now.columns) result.now }
+        ensures pool { IsPool self.now }
+    {
+        self.basics.ids()
     }
 }

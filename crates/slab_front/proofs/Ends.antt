@@ -1,10 +1,10 @@
 -- How a run ends, from what its parts did.
-use Rattle.std.proofs.Common.{◌≡◌, ◌≢◌, ◌⊎◌, inl, inr, ℕ, List, [], ◌++◌, Option, Some, None, Ok, refl, sym, ap, ◌∙◌, subst, append-nil, rules}
+use Rattle.std.proofs.Common.{◌≡◌, ◌≢◌, inl, inr, ℕ, List, [], ◌++◌, Option, Some, None, Ok, refl, sym, ap, ◌∙◌, subst}
 use Rattle.slab_desk.specs.Desk.{Told, Files, Steps, WhereTold, ChangesLeft}
 use Rattle.slab_front.specs.Texts.{memory_text}
 use Rattle.slab_relax.specs.declared.tally.Tally.{Tally}
 use Rattle.slab_front.specs.Words.{Command, Parsed}
-use Rattle.slab_front.specs.Outcomes.{Outcome, Owing, Gives, SaysOnly, BeginsToStore, BeginsToSay, Begins, StopsShort, Ran, saying, storing, with_file}
+use Rattle.slab_front.specs.Outcomes.{Outcome, Owing, Gives, BeginsToStore, BeginsToSay, Begins, Ran, saying, storing, with_file}
 use Rattle.slab_front.specs.Owed.{OwesOfWords, OwesOfCommand}
 use Rattle.slab_front.specs.Endings.{Finishes}
 
@@ -91,20 +91,6 @@ ends_memory owes result a b c read end = elim end.status [
   where
     says_after : (x y z : Told) → ChangesLeft x y → BeginsToSay (saying memory_text) y z → BeginsToSay (saying memory_text) x z
     says_after x y z p (front, back, whole, q) = (front, back, whole, given_after (saying front) x y z p q)
-
--- a fault while files were read
-pub ends_fault : (owes : Files → Owing) (a b : Option Told) → Steps a b ChangesLeft → Steps a b (Ran owes 5)
-ends_fault owes None None read = tt
-ends_fault owes None (Some y) read = read
-ends_fault owes (Some x) None read = read
-ends_fault owes (Some x) (Some y) read = record {
-  fault = λ _. inl (given_after (saying []) x y y read (nothing_given y));
-  memory = λ is. cc;
-  owed = λ not _. absurd (not refl);
-}
-  where
-    nothing_given : (y : Told) → SaysOnly [] y y
-    nothing_given y = search rules
 
 -- what a job owes is what its words owe
 pub ran_parsed : (parsed : Parsed Command) (command : Command) (was is : Tally) (a b : Option Told) (result : ℕ) → parsed ≡ Ok command

@@ -1,7 +1,6 @@
 -- What is owed of files that have a value.
-use Rattle.std.proofs.Common.{◌≡◌, ◌≢◌, inl, inr, ℕ, ◌≤◌, Bool, true, false, cond, not, nat_eq, nat_lt, List, [], ◌∷◌, length, Option, Some, None, Result, Ok, Err, refl, sym, subst, MatchResult, arith, rules}
+use Rattle.std.proofs.Common.{◌≡◌, ◌≢◌, ℕ, ◌≤◌, Bool, true, false, cond, not, nat_eq, nat_lt, List, [], ◌∷◌, length, Option, Some, None, Result, Ok, Err, refl, sym, subst, MatchResult, arith, rules}
 use Rattle.std.specs.Bool.{MatchBool}
-use Rattle.std.specs.FinMap.{get}
 use Rattle.std.specs.Prelude.{MatchOption, find}
 use Rattle.slab_desk.specs.Desk.{Files}
 use Rattle.mill_model.specs.declared.illegal.Illegal.{Illegal}
@@ -18,7 +17,7 @@ use Rattle.slab_front.specs.Words.{MillWords, Command, Parsed}
 use Rattle.slab_front.specs.Words.Command.{Solves, Judges, Makes}
 use Rattle.slab_front.specs.Texts.{long_text, fault_text}
 use Rattle.slab_front.specs.Outcomes.{Outcome, Owing}
-use Rattle.slab_front.specs.Owed.{Exactly, Nothing, OwesOfFile, OwesOfYard, OwesOfMill, MayEnd, most_bytes, with_colours}
+use Rattle.slab_front.specs.Owed.{Exactly, OwesOfFile, OwesOfYard, OwesOfMill, MayEnd, most_bytes, with_colours}
 use Rattle.slab_front.specs.Endings.{HasValue, HasYard, HasMill}
 
 is_short : (n : ℕ) → n ≤ most_bytes → nat_lt most_bytes n ≡ false
@@ -48,44 +47,7 @@ owes_mill owes files words m status o has owed =
     owes_value Orders order_file (OwesOfYard after files words.yard) files words.orders has.bare status o has.orders
     (owes_yard after files words.yard has.bare has.with_its_yard status o has.yard (subst (λ (x : Mill). owes x status o) has.colours owed))
 
--- ---- a refusal of a file stands whatever follows
-
-refused_reading : {A : Type 0} (r : Result A TextFault) (P Q : A → Type 0) (F : TextFault → Type 0) → ((value : A) → P value → Q value) → MatchResult r P F → MatchResult r Q F
-refused_reading (Ok value) P Q F more is = more value is
-refused_reading (Err fault) P Q F more is = is
-
-refused_bytes : (b : Bool) (L P Q : Type 0) → (P → Q) → MatchBool b L P → MatchBool b L Q
-refused_bytes true L P Q more is = is
-refused_bytes false L P Q more is = more is
-
-refused_there : (there : Option (List ℕ)) (P Q : List ℕ → Type 0) → ((bytes : List ℕ) → P bytes → Q bytes) → MatchOption there ⊥ P → MatchOption there ⊥ Q
-refused_there None P Q more is = is
-refused_there (Some bytes) P Q more is = more bytes is
-
-pub more_of_file : {A : Type 0} (source : Source) (reading : List ℕ → Result A TextFault) (owes others : A → Owing) (files : Files) (name : List ℕ) (status : ℕ) (o : Outcome)
-    → ((value : A) → owes value status o → others value status o)
-    → OwesOfFile source reading owes files name status o → OwesOfFile source reading others files name status o
-more_of_file source reading owes others files name status o more is =
-    let Fails : TextFault → Type 0 = λ fault. Exactly 2 (fault_text source fault) status o in
-    let Long : Type 0 = Exactly 2 (long_text source) status o in
-    refused_there (get files name)
-    (λ b. MatchBool (nat_lt most_bytes (length b)) Long (MatchResult (reading b) (λ v. owes v status o) Fails))
-    (λ b. MatchBool (nat_lt most_bytes (length b)) Long (MatchResult (reading b) (λ v. others v status o) Fails))
-    (λ b. refused_bytes (nat_lt most_bytes (length b)) Long _ _ (refused_reading (reading b) (λ v. owes v status o) (λ v. others v status o) Fails more)) is
-
-more_of_yard : (owes others : Mill → Owing) (files : Files) (yard : Option (List ℕ)) (m : Mill) (status : ℕ) (o : Outcome)
-    → ((x : Mill) → owes x status o → others x status o) → OwesOfYard owes files yard m status o → OwesOfYard others files yard m status o
-more_of_yard owes others files None m status o more is = more m is
-more_of_yard owes others files (Some name) m status o more is =
-    more_of_file YardSource (yard_file (length m.orders)) (λ yard. owes (with_yard m yard)) (λ yard. others (with_yard m yard)) files name status o (λ yard. more (with_yard m yard)) is
-
-pub more_of_mill : (owes others : Mill → Owing) (files : Files) (words : MillWords) (status : ℕ) (o : Outcome)
-    → ((m : Mill) → owes m status o → others m status o) → OwesOfMill owes files words status o → OwesOfMill others files words status o
-more_of_mill owes others files words status o more is =
-    let from : Mill → Owing = λ x. owes (with_colours words.colours x) in
-    let to : Mill → Owing = λ x. others (with_colours words.colours x) in
-    more_of_file Orders order_file (OwesOfYard from files words.yard) (OwesOfYard to files words.yard) files words.orders status o
-    (λ m. more_of_yard from to files words.yard m status o (λ x. more (with_colours words.colours x))) is
+-- ---- judging
 
 -- what is found passes the test
 found_here : {A : Type 0} (p : A → Bool) (y x : A) (others : Option A) (b : Bool) → p y ≡ b → (others ≡ Some x → p x ≡ true) → cond b (Some y) others ≡ Some x → p x ≡ true

@@ -9,7 +9,7 @@ use Rattle.mill_model.specs.Mill.{Mill, IsInLimits}
 use Rattle.mill_model.specs.Plans.{Plan, IsLegal}
 use Rattle.mill_model.specs.Trees.{most_nodes}
 use Rattle.mill_model.specs.Marks.{MarkedSteps}
-use Rattle.mill_model.specs.Fronts.{Point, IsPoint, IsGoodFrom, IsGoodHead, sums_list}
+use Rattle.mill_model.specs.Fronts.{Point, IsPoint, IsGoodFrom, IsGoodHead}
 use Rattle.slab_relax.specs.declared.tally.Tally.{Tally}
 use Rattle.slab_relax.specs.Tallies.{HaveCauses}
 use Rattle.slab_tree.specs.Counts.{Counts}
@@ -26,12 +26,12 @@ use Rattle.slab_start.proofs.MadePlain.{made_is_plain}
 use Rattle.mill_model.specs.Columns.{Column}
 use Rattle.std.specs.Option.{option_map}
 use Rattle.slab_start.specs.Plain.{IsPlainMill}
-use Rattle.cert_text.specs.Certificates.{Ending, Certificate, IsGood, ShowsFront, ShowsNoPlan, AreMarksOf, finished_trees}
+use Rattle.cert_text.specs.Certificates.{IsGood, ShowsFront, ShowsNoPlan, AreMarksOf, finished_trees}
 use Rattle.cert_text.specs.Certificates.Ending.{Whole, Cut}
 use Rattle.cert_text.proofs.Shown.{what_is_shown_holds}
 use Rattle.slab_front.specs.Words.{most_limit}
-use Rattle.slab_front.specs.Searched.{Searched, certificate_of, status_of, status_with, end_word, ending_nodes, IsCounted, HasPlan, AreTheFront, attained, FindsFront, FindsNoPlan, IsCutShort, IsSearched}
-use Rattle.slab_front.specs.Searches.{searched, HasPointIfWhole}
+use Rattle.slab_front.specs.Searched.{Searched, certificate_of, status_of, status_with, end_word, ending_nodes, IsCounted, HasPlan, attained, FindsFront, IsSearched}
+use Rattle.slab_front.specs.Searches.{searched}
 
 -- no node was opened yet
 abbrev pub start : ℕ → Counts
@@ -203,13 +203,6 @@ found_from m limit was is old new head swept opened bare eo eh e1 e2 limits fits
     (λ told none. subst (λ (n : Counts). IsSweptAtOnce n new swept) eo (plain told eh))
     (subst (λ (n : Counts). OpensFew m n new) eo opens)
     (subst (λ (n : Counts). HaveCauses n.bare was new.bare is) eo causes) among))
-
--- a front that a sweep gave has a point
-pub has_point_from : (m : Mill) (limit : ℕ) (was is : Tally) (old new : Counts) (head : List Point) (swept : Swept)
-    → IsSwept (Some first_fit) m head old new was is swept → HasPointIfWhole swept
-has_point_from m limit was is old new head (Complete front) (whole, bares) = whole.some
-has_point_from m limit was is old new head (NoPlan last) given = tt
-has_point_from m limit was is old new head (Budget points rest) given = tt
 
 -- a made mill has a front
 pub made_found : (orders seed limit : ℕ) (was is : Tally) (m : Mill) (s : Searched) → m ≡ made_mill orders seed

@@ -1,41 +1,11 @@
 -- What was stored and said, from the calls of a desk.
-use Rattle.std.proofs.Common.{◌≡◌, ◌≢◌, ◌⊎◌, inl, inr, ℕ, List, [], ◌∷◌, ◌++◌, Option, Some, None, Result, Ok, Err, refl, sym, ap, ◌∙◌, subst, append-nil, append_assoc}
+use Rattle.std.proofs.Common.{◌≡◌, ◌⊎◌, inr, ℕ, List, [], ◌∷◌, ◌++◌, Option, Some, Result, Ok, Err, sym, ap, ◌∙◌, subst, append-nil}
 use Rattle.std.specs.FinMap.{get, insert}
 use Rattle.std.specs.Prelude.{OnOk, OnErr}
-use Rattle.mill_model.specs.Mill.{Mill}
-use Rattle.mill_model.specs.Fronts.{Point}
-use Rattle.mill_report.specs.declared.word.Word.{Word}
-use Rattle.mill_report.specs.declared.word.Word.TheVariants.{Complete, Budget, NoPlan}
-use Rattle.mill_report.specs.Reports.{report_text, summary_text}
-use Rattle.slab_front.specs.Searched.{status_with}
-use Rattle.slab_desk.specs.Desk.{Told, Files, Steps, Stays, Creates, Appends, AppendsAll, Says, WithPrefix}
+use Rattle.slab_desk.specs.Desk.{Told, Files, Steps, Creates, Appends, AppendsAll, WithPrefix}
 use Rattle.slab_desk.proofs.Files.{get-insert_same, insert-insert_same}
-use Rattle.slab_desk.proofs.Steps.{steps_join, steps_weaker}
-use Rattle.slab_front.specs.Outcomes.{Outcome, Gives, SaysOnly, BeginsToStore, BeginsToSay, Begins, saying, storing, with_file}
-use Rattle.slab_front.specs.Endings.{Finishes}
-
-abbrev IsUnread : Told → Told → Type 0
-IsUnread x y = y.left ≡ x.left
-
--- ---- texts
-
-pub gives_text : (text : List ℕ) (x y : Told) → Says text x y → Gives (saying text) x y
-gives_text text x y q = q ∙ ap (λ (l : List ℕ). record x { left = l; said = x.said ++ text }) (sym (ap (λ (t : Told). t.left) q))
-
-unread_text : (text : List ℕ) (x y : Told) → Says text x y → y.left ≡ x.left
-unread_text text x y q = ap (λ (t : Told). t.left) q
-
-begins_text : (text : List ℕ) (x y : Told) → WithPrefix Says text x y → BeginsToSay (saying text) x y
-begins_text text x y (front, back, whole, q) = (front, back, whole, gives_text front x y q)
-
--- a text after what was given before
-says_more : (o : Outcome) (text : List ℕ) (x y z : Told) → Gives o x y → Says text y z → Gives (record o { said = o.said ++ text }) x z
-says_more o text x y z p q =
-    let f : Files = (with_file o.stored x).files in
-    let t : Option (List ℕ) = (with_file o.stored x).target in
-    q ∙ ap (λ (u : Told). record u { said = u.said ++ text }) p
-    ∙ ap (λ (s : List ℕ). record x { files = f; target = t; left = y.left; said = s }) (append_assoc x.said o.said text)
-    ∙ ap (λ (l : List ℕ). record x { files = f; target = t; left = l; said = x.said ++ (o.said ++ text) }) (sym (ap (λ (u : Told). u.left) q))
+use Rattle.slab_desk.proofs.Steps.{steps_join}
+use Rattle.slab_front.specs.Outcomes.{Gives, SaysOnly, BeginsToStore, storing}
 
 -- ---- files
 
@@ -68,77 +38,12 @@ stored name text x y z p q = appended_all name text x z (subst (λ (u : Told). A
 gives_file : (name text : List ℕ) (x y z : Told) → Creates name x y → AppendsAll text y z → Gives (storing name text) x z
 gives_file name text x y z p q = gives_created name text x z (stored name text x y z p q)
 
-unread_file : (name text : List ℕ) (x y z : Told) → Creates name x y → AppendsAll text y z → z.left ≡ x.left
-unread_file name text x y z p q = ap (λ (u : Told). u.left) (stored name text x y z p q)
-
 pub file_stored : (name text : List ℕ) (a b c : Option Told) → Steps a b (Creates name) → Steps b c (AppendsAll text) → Steps a c (Gives (storing name text))
 file_stored name text a b c p q = steps_join a b c (λ x y z r s. gives_file name text x y z r s) p q
-
-pub file_unread : (name text : List ℕ) (a b c : Option Told) → Steps a b (Creates name) → Steps b c (AppendsAll text) → Steps a c (λ x y. y.left ≡ x.left)
-file_unread name text a b c p q = steps_join a b c (λ x y z r s. unread_file name text x y z r s) p q
 
 pub file_begun : (name text : List ℕ) (a b c : Option Told) → Steps a b (Creates name) → Steps b c (WithPrefix AppendsAll text)
     → Steps a c (λ x y. SaysOnly [] x y ⊎ BeginsToStore (Some (name, text)) x y)
 file_begun name text a b c p q = steps_join a b c (λ x y z r s. inr (s.0, s.1, s.2, gives_file name s.0 x y z r s.3)) p q
-
-pub file_begun_unread : (name text : List ℕ) (a b c : Option Told) → Steps a b (Creates name) → Steps b c (WithPrefix AppendsAll text) → Steps a c (λ x y. y.left ≡ x.left)
-file_begun_unread name text a b c p q = steps_join a b c (λ x y z r s. unread_file name s.0 x y z r s.3) p q
-
-nothing_said : (x y : Told) → Stays x y → SaysOnly [] x y
-nothing_said x y q =
-    q ∙ ap (λ (s : List ℕ). record x { said = s }) (sym (append-nil x.said))
-    ∙ ap (λ (l : List ℕ). record x { left = l; said = x.said ++ [] }) (sym (ap (λ (u : Told). u.left) q))
-
-pub file_missing : (name text : List ℕ) (a b : Option Told) → Steps a b Stays → Steps a b (λ x y. SaysOnly [] x y ⊎ BeginsToStore (Some (name, text)) x y)
-file_missing name text a b p = steps_weaker a b (λ x y q. inl (nothing_said x y q)) p
-
-pub stays_unread : (a b : Option Told) → Steps a b Stays → Steps a b (λ x y. y.left ≡ x.left)
-stays_unread a b p = steps_weaker a b (λ x y q. ap (λ (u : Told). u.left) q) p
-
--- ---- ends
-
-pub said_all : (status : ℕ) (text : List ℕ) (a b : Option Told) → status ≢ 5 → Steps a b (Says text) → Finishes status (saying text) a b status
-said_all status text a b not p = record {
-  status = inl refl;
-  given = λ _. steps_weaker a b (gives_text text) p;
-  short = λ is. absurd (not is);
-  unread = steps_weaker a b (unread_text text) p;
-}
-
-pub said_some : (status : ℕ) (text : List ℕ) (a b : Option Told) → Steps a b (WithPrefix Says text) → Finishes status (saying text) a b 5
-said_some status text a b p = record {
-  status = inr refl;
-  given = λ not. absurd (not refl);
-  short = λ _. steps_weaker a b (λ x y q. inr (inr (begins_text text x y q))) p;
-  unread = steps_weaker a b (λ x y q. unread_text q.0 x y q.3) p;
-}
-
-pub stored_and_said : (status : ℕ) (name bytes text : List ℕ) (a b c : Option Told) → status ≢ 5
-    → Steps a b (Gives (storing name bytes)) → Steps a b IsUnread → Steps b c (Says text) → Finishes status (record { said = text; stored = Some (name, bytes) }) a c status
-stored_and_said status name bytes text a b c not p u q = record {
-  status = inl refl;
-  given = λ _. steps_join a b c (says_more (storing name bytes) text) p q;
-  short = λ is. absurd (not is);
-  unread = steps_join a b c (λ x y z r s. unread_text text y z s ∙ r) u q;
-}
-
-pub stored_and_begun : (status : ℕ) (name bytes text : List ℕ) (a b c : Option Told)
-    → Steps a b (Gives (storing name bytes)) → Steps a b IsUnread → Steps b c (WithPrefix Says text) → Finishes status (record { said = text; stored = Some (name, bytes) }) a c 5
-stored_and_begun status name bytes text a b c p u q = record {
-  status = inr refl;
-  given = λ not. absurd (not refl);
-  short = λ _. steps_join a b c (λ x y z r s. inr (inr (s.0, s.1, s.2, says_more (storing name bytes) s.0 x y z r s.3))) p q;
-  unread = steps_join a b c (λ x y z r s. unread_text s.0 y z s.3 ∙ r) u q;
-}
-
-pub not_stored : (status : ℕ) (name bytes text : List ℕ) (a b : Option Told)
-    → Steps a b (λ x y. SaysOnly [] x y ⊎ BeginsToStore (Some (name, bytes)) x y) → Steps a b IsUnread → Finishes status (record { said = text; stored = Some (name, bytes) }) a b 5
-not_stored status name bytes text a b p u = record {
-  status = inr refl;
-  given = λ not. absurd (not refl);
-  short = λ _. steps_weaker a b (λ x y q. elim q [ inl none ↦ inl none | inr begun ↦ inr (inl begun) ]) p;
-  unread = u;
-}
 
 -- ---- results
 
@@ -149,24 +54,3 @@ on_ok (Err e) f p = tt
 pub on_err : {A E : Type 0} (r : Result A E) {P Q : Type 0} → (P → Q) → OnErr r P → OnErr r Q
 on_err (Ok a) f p = tt
 on_err (Err e) f p = f p
-
--- whether it was written whole or not
-pub file_left : {A E : Type 0} (r : Result A E) (name text : List ℕ) (a b c : Option Told) → Steps a b (Creates name)
-    → OnOk r (Steps b c (AppendsAll text)) → OnErr r (Steps b c (WithPrefix AppendsAll text)) → Steps a c (λ x y. y.left ≡ x.left)
-file_left (Ok v) name text a b c p all some = file_unread name text a b c p all
-file_left (Err e) name text a b c p all some = file_begun_unread name text a b c p some
-
--- ---- reports
-
-pub same_report : (h p : List Point) (o x : ℕ) (b y : ℕ) (w v : Word) → h ≡ p → o ≡ x → b ≡ y → w ≡ v → report_text h o b w ≡ report_text p x y v
-same_report h p o x b y w v hp ox by wv =
-    ap (λ (l : List Point). report_text l o b w) hp ∙ ap (λ (n : ℕ). report_text p n b w) ox ∙ ap (λ (n : ℕ). report_text p x n w) by ∙ ap (λ (u : Word). report_text p x y u) wv
-
-pub same_summary : (m : Mill) (h p : List Point) (o x : ℕ) (b y : ℕ) (w v : Word) → h ≡ p → o ≡ x → b ≡ y → w ≡ v → summary_text m h o b w ≡ summary_text m p x y v
-same_summary m h p o x b y w v hp ox by wv =
-    ap (λ (l : List Point). summary_text m l o b w) hp ∙ ap (λ (n : ℕ). summary_text m p n b w) ox ∙ ap (λ (n : ℕ). summary_text m p x n w) by ∙ ap (λ (u : Word). summary_text m p x y u) wv
-
-pub never_5 : (w : Word) → status_with w ≢ 5
-never_5 Complete e = cc
-never_5 Budget e = cc
-never_5 NoPlan e = cc

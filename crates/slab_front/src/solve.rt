@@ -9,14 +9,12 @@ ghost use Rattle.slab_front.specs.Endings.{HasOnlyRead, IsStoppedBy, is_fault, I
 use crate::ending::{Answer, Stop};
 use crate::files::read_mill;
 use crate::search::search_front;
+use crate::words::DEFAULT_NODES;
 use mill_model::Mill;
 use slab_desk::Desk;
 use slab_node::Tally;
 use slab_start::make_mill;
 use std::alloc::{AllocError, Global};
-
-/// So many nodes may one question's tree have where nothing else is said.
-pub const DEFAULT_NODES: u64 = 1000000;
 
 /// The Pareto front of the mill of an order file, with the yard of a yard file where one is named, and a colour limit; to be
 /// stored in the file `cert`. One question's tree may have so many nodes.

@@ -9,7 +9,8 @@ use itoa::Buffer;
 use mill_model::{MOST_COLOUR_LIMIT, MOST_ORDERS};
 use thiserror::Error;
 
-const DEFAULT_NODES: u64 = 1000000;
+/// So many nodes may one question's tree have where nothing else is said.
+pub const DEFAULT_NODES: u64 = 1000000;
 
 const DEFAULT_COLOURS: u16 = 2;
 

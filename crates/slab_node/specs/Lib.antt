@@ -2,6 +2,7 @@ pub use Rattle.slab_relax.specs.Nodes
 pub use Rattle.slab_relax.specs.Tallies
 pub use Rattle.slab_relax.specs.PoolCovers
 pub mod Turns
+pub mod AtNodes
 pub mod Grouped
 pub mod Built
 pub mod Settled
@@ -9,5 +10,6 @@ pub mod Stated
 pub mod Misfits
 pub mod Settlements
 pub mod Shares
+pub mod OfWholes
 pub mod Taken
 pub mod Choices

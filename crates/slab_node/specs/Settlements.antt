@@ -1,5 +1,7 @@
 -- The one plan of settled decisions.
 use Rattle.std.specs.Prelude.{◌≡◌, ℕ, List, length, Option}
+use Rattle.mill_model.specs.declared.sums.Sums.{Sums}
+use Rattle.mill_model.specs.Plans.{sums_of}
 use Rattle.mill_model.specs.Decisions.{AreAsks}
 use Rattle.mill_model.specs.Assignments.{AreSettled}
 use Rattle.slab_decide.specs.Decided.{AreConsistent}
@@ -25,3 +27,7 @@ pub record IsSettlement (node : Node) (s : Settlement) : Type 0 where
   pub puts : AreSlabs node.decisions.now.list (length node.mill.now.yard) slabs
   pub are : AreKinds node.mill.now s.heads.items slabs s.kinds.items
   pub built : IsBuilt s.heads.items s.kinds.items (length s.heads.items) s.plan.kinds s.plan.place
+
+-- what the plan sums to
+abbrev pub sums_by : Node → Settlement → Sums
+sums_by node s = sums_of node.mill.now s.plan

@@ -2,9 +2,9 @@
 ghost use Rattle.std.specs.Prelude.{◌≡◌, ◌≤◌, IfOk};
 ghost use Rattle.mill_model.specs.Decisions.{AreAsks};
 ghost use Rattle.slab_decide.specs.Decided.{AreConsistent};
-ghost use Rattle.slab_relax.specs.PoolCovers.{IsPoolCover};
+ghost use Rattle.slab_relax.specs.AtNodes.{IsCoverAt};
 ghost use Rattle.slab_node.specs.Choices.{IfSplit, IfWhole};
-ghost use Rattle.slab_node.specs.Turns.{IsOpenAsk, IsInBox};
+ghost use Rattle.slab_node.specs.AtNodes.{IsOpenAskAt, IsInBoxAt};
 
 use crate::Cover;
 use crate::multiples::Multiples;
@@ -36,12 +36,12 @@ pub(crate) fn choose(
     wides: &mut Wides,
 ) -> Result<Choice, AllocError>
     requires mill { pool.now.mill ≡ node.now.mill.now }
-    requires cover { IsPoolCover node.now.mill.now node.now.limits node.now.decisions.now.list pool.now.columns cover.now }
-    requires question { IsOpenAsk node.now.mill.now node.now.decisions.now.list undecided }
+    requires cover { IsCoverAt node.now pool.now.columns cover.now }
+    requires question { IsOpenAskAt node.now undecided }
     requires asks { AreAsks node.now.mill.now node.now.decisions.now.list }
     requires consistent { AreConsistent node.now.decisions.now.list }
-    ensures split { IfOk result (λ c. IfSplit c (IsOpenAsk node.now.mill.now node.now.decisions.now.list)) }
-    ensures whole { IfOk result (λ c. IfWhole c (IsInBox node.now.mill.now node.now.limits node.now.decisions.now.list)) }
+    ensures split { IfOk result (λ c. IfSplit c (IsOpenAskAt node.now)) }
+    ensures whole { IfOk result (λ c. IfWhole c (IsInBoxAt node.now)) }
     ensures grows { wides.old ≤ wides.new }
 {
     let Some(multiples) = Multiples::new(alloc, cover.list(), wides)? else {

@@ -67,7 +67,8 @@ pub(crate) fn firsts_of(alloc: Global, node: &Node<'_>) -> Result<Vec<u16>, Allo
 pub(crate) fn slabs_of(alloc: Global, node: &Node<'_>) -> Result<Vec<Option<u16>>, AllocError>
     requires { AreSettled node.now.mill.now node.now.decisions.now.list }
     ensures size { IfOk result (λ slabs. length slabs.items ≡ length node.now.mill.now.orders) }
-    ensures slabs { IfOk result (λ slabs. AreSlabs node.now.decisions.now.list (length node.now.mill.now.yard) slabs.items) }
+    ensures slabs { IfOk result (λ slabs. AreSlabs node.now.decisions.now.list
+        (length node.now.mill.now.yard) slabs.items) }
 {
     let count = node.mill.orders().len();
     let mut slabs = Vec::with_capacity(alloc, count)?;

@@ -32,7 +32,8 @@ impl Multiples {
         cover: &[(ColId, Frac)],
         wides: &mut Wides,
     ) -> Result<Option<Multiples>, AllocError>
-        ensures some { IfOk result (λ answer. IfSome answer (λ m. AreMultiples cover.now m.whole m.times.items)) }
+        ensures some { IfOk result (λ answer. IfSome answer
+            (λ m. AreMultiples cover.now m.whole m.times.items)) }
         ensures grows { wides.old ≤ wides.new }
     {
         let list = multipliers(alloc, cover)?;

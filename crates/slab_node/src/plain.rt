@@ -3,7 +3,8 @@ ghost use Rattle.std.specs.Prelude.{◌≡◌, ◌≤◌, ◌*◌, ◌↔◌, po
 ghost use Rattle.std.specs.List.{sum};
 ghost use Rattle.mill_model.specs.Decisions.{Decision};
 ghost use Rattle.mill_model.specs.Prices.{IsPrice, Refutes};
-ghost use Rattle.mill_model.specs.Plain.{total_weight, greatest_size, IsPlainlyRefuted, loss_prices, count_prices, weight_prices};
+ghost use Rattle.mill_model.specs.Plain.{total_weight, greatest_size, IsPlainlyRefuted, weight_prices};
+ghost use Rattle.slab_node.specs.Stated.{free_prices};
 
 use mill_model::{Limits, Mill, Prices};
 use std::alloc::{AllocError, Global};
@@ -61,7 +62,8 @@ fn held_by(mill: &Mill, count: i64) -> i128
 
 // Whether so few new slabs and the whole yard don't hold the orders.
 fn is_too_heavy(mill: &Mill, count: Option<i64>) -> bool
-    ensures { IsTrue result ↔ IsSomeAnd count (λ b. (b *ℤ pos (greatest_size mill.now) +ℤ pos (sum mill.now.yard)) <ℤ pos (total_weight mill.now)) }
+    ensures { IsTrue result ↔ IsSomeAnd count (λ b.
+        (b *ℤ pos (greatest_size mill.now) +ℤ pos (sum mill.now.yard)) <ℤ pos (total_weight mill.now)) }
 {
     match count {
         Some(count) => held_by(mill, count) < i128::from(total_weight(mill)),
@@ -73,7 +75,7 @@ fn is_too_heavy(mill: &Mill, count: Option<i64>) -> bool
 fn bare_prices(alloc: Global, mill: &Mill, lambda: i64, mu: i64) -> Result<Prices, AllocError>
     requires lambda { IsPrice lambda }
     requires mu { IsPrice mu }
-    ensures { IfOk result (λ p. p ≡ record { lambda = lambda; mu = mu; pi = replicate (length mill.now.orders) (pos 0); sigma = replicate (length mill.now.yard) (pos 0) }) }
+    ensures { IfOk result (λ p. p ≡ free_prices mill.now lambda mu (replicate (length mill.now.orders) (pos 0))) }
 {
     let pi = vec![in alloc; 0; mill.orders().len()]?;
     let sigma = vec![in alloc; 0; mill.yard().len()]?;
@@ -102,7 +104,8 @@ pub(crate) fn plain_prices(
     mill: &Mill,
     limits: Limits,
 ) -> Result<Option<Prices>, AllocError>
-    ensures some { IfOk result (λ answer. IfSome answer (λ p. (decisions : List Decision) → Refutes mill.now limits decisions p)) }
+    ensures some { IfOk result (λ answer. IfSome answer
+        (λ p. (decisions : List Decision) → Refutes mill.now limits decisions p)) }
     ensures none { IfOk result (λ answer. IfNone answer (¬ IsPlainlyRefuted mill.now limits)) }
 {
     let _limits = mill.sizes();

@@ -2,12 +2,13 @@
 ghost use Rattle.std.specs.Prelude.{◌≡◌, ◌≢◌, ℕ, ◌<◌, pos, ◌<ℤ◌, IfOk, IfSome, IfNone, IsSomeAnd, Some, length, slice_index};
 ghost use Rattle.std.specs.Bool.{OnTrue, OnFalse};
 ghost use Rattle.mill_model.specs.Limits.{AtMost};
-ghost use Rattle.mill_model.specs.Plans.{IsLegal, sums_of};
+ghost use Rattle.mill_model.specs.Plans.{IsLegal};
 ghost use Rattle.mill_model.specs.Judging.{first_broken};
-ghost use Rattle.mill_model.specs.Prices.{Refutes};
+ghost use Rattle.slab_relax.specs.AtNodes.{RefutesAt};
+ghost use Rattle.slab_node.specs.AtNodes.{IsInBoxAt};
 ghost use Rattle.slab_node.specs.Misfits.{slab_number};
-ghost use Rattle.slab_node.specs.Settlements.{IsSettledNode, IsSettlement};
-ghost use Rattle.slab_node.specs.Turns.{IfRefuted, IfInBox, IsInBox, IsClosed};
+ghost use Rattle.slab_node.specs.Settlements.{IsSettledNode, IsSettlement, sums_by};
+ghost use Rattle.slab_node.specs.Turns.{IfRefuted, IfInBox, IsClosed};
 
 use crate::Turned;
 use crate::settlement::Settlement;
@@ -61,7 +62,7 @@ fn misfit(
 ) -> Result<Prices, AllocError>
     requires settlement { IsSettlement node.now settlement.now }
     requires broken { first_broken node.now.mill.now settlement.now.plan ≡ Some rule }
-    ensures { IfOk result (Refutes node.now.mill.now node.now.limits node.now.decisions.now.list) }
+    ensures { IfOk result (RefutesAt node.now) }
 {
     let slab = match slab_number(rule) {
         Some(slab) => slab,
@@ -84,8 +85,9 @@ fn loss_prices(
 ) -> Result<Prices, AllocError>
     requires settlement { IsSettlement node.now settlement.now }
     requires legal { IsLegal node.now.mill.now settlement.now.plan }
-    requires above { IsSomeAnd node.now.limits.loss (λ a. a <ℤ pos (sums_of node.now.mill.now settlement.now.plan).loss) }
-    ensures { IfOk result (Refutes node.now.mill.now node.now.limits node.now.decisions.now.list) }
+    requires above { IsSomeAnd node.now.limits.loss
+        (λ a. a <ℤ pos (sums_by node.now settlement.now).loss) }
+    ensures { IfOk result (RefutesAt node.now) }
 {
     let pi = losses_of(alloc, node.mill, &settlement.heads, &settlement.kinds)?;
     prices_by(alloc, node.mill, 1, 0, pi)
@@ -99,8 +101,9 @@ fn count_prices(
 ) -> Result<Prices, AllocError>
     requires settlement { IsSettlement node.now settlement.now }
     requires legal { IsLegal node.now.mill.now settlement.now.plan }
-    requires above { IsSomeAnd node.now.limits.count (λ b. b <ℤ pos (sums_of node.now.mill.now settlement.now.plan).count) }
-    ensures { IfOk result (Refutes node.now.mill.now node.now.limits node.now.decisions.now.list) }
+    requires above { IsSomeAnd node.now.limits.count
+        (λ b. b <ℤ pos (sums_by node.now settlement.now).count) }
+    ensures { IfOk result (RefutesAt node.now) }
 {
     let pi = counts_of(alloc, &settlement.heads, &settlement.kinds)?;
     prices_by(alloc, node.mill, 0, 1, pi)
@@ -115,9 +118,9 @@ fn limited(
 ) -> Result<Turned, AllocError>
     requires settlement { IsSettlement node.now settlement }
     requires legal { IsLegal node.now.mill.now settlement.plan }
-    requires sums { sums ≡ sums_of node.now.mill.now settlement.plan }
-    ensures refuted { IfOk result (λ t. IfRefuted t (Refutes node.now.mill.now node.now.limits node.now.decisions.now.list)) }
-    ensures in_box { IfOk result (λ t. IfInBox t (IsInBox node.now.mill.now node.now.limits node.now.decisions.now.list)) }
+    requires sums { sums ≡ sums_by node.now settlement }
+    ensures refuted { IfOk result (λ t. IfRefuted t (RefutesAt node.now)) }
+    ensures in_box { IfOk result (λ t. IfInBox t (IsInBoxAt node.now)) }
     ensures closed { IfOk result IsClosed }
 {
     if exceeds(sums.loss, node.limits.loss) {
@@ -137,8 +140,8 @@ fn limited(
 // The turn of a node whose decisions are settled: the one plan that agrees, or prices.
 pub(crate) fn settle(alloc: Global, node: &Node<'_>) -> Result<Turned, AllocError>
     requires { IsSettledNode node.now }
-    ensures refuted { IfOk result (λ t. IfRefuted t (Refutes node.now.mill.now node.now.limits node.now.decisions.now.list)) }
-    ensures in_box { IfOk result (λ t. IfInBox t (IsInBox node.now.mill.now node.now.limits node.now.decisions.now.list)) }
+    ensures refuted { IfOk result (λ t. IfRefuted t (RefutesAt node.now)) }
+    ensures in_box { IfOk result (λ t. IfInBox t (IsInBoxAt node.now)) }
     ensures closed { IfOk result IsClosed }
 {
     let settlement = Settlement::new(alloc, node)?;

@@ -56,8 +56,10 @@ pub(crate) fn losses_of(
     requires heads { length heads.now ≡ length mill.now.orders }
     requires kinds { length kinds.now ≡ length mill.now.orders }
     requires before { AreBefore heads.now }
-    requires fits { (head : ℕ) → head < length mill.now.orders → head_of heads.now head ≡ head → Fits mill.now (group_column heads.now kinds.now head) }
-    ensures at { IfOk result (λ pi. AreAtHeads heads.now (group_loss mill.now heads.now kinds.now) pi.items) }
+    requires fits { (head : ℕ) → head < length mill.now.orders → head_of heads.now head ≡ head
+        → Fits mill.now (group_column heads.now kinds.now head) }
+    ensures at { IfOk result (λ pi. AreAtHeads heads.now
+        (group_loss mill.now heads.now kinds.now) pi.items) }
     ensures range { IfOk result (λ pi. All IsPrice pi.items) }
 {
     let count = mill.orders().len();

@@ -5,7 +5,7 @@ ghost use Rattle.slab_master.specs.Given.{IsSmall};
 
 use crate::{Tally, Turned, turn};
 use loss_table::LossTable;
-use mill_model::{Ask, Limits, Mill, Order, Yard};
+use mill_model::{Ask, Limits, Mill, Order, Prices, Yard};
 use slab_columns::Pool;
 use slab_decide::Decisions;
 use std::alloc::{AllocError, Global};
@@ -19,6 +19,8 @@ const FREE: i8 = -1;
 struct Case {
     size: u8,
     orders: u8,
+    /// Whether the mill has two orders of two colours instead, and takes one colour on a slab.
+    mixed: bool,
     /// Whether there is a surplus slab of size 8, and whether the first order is barred from it.
     surplus: Option<bool>,
     /// What is decided of the first two orders, and of the first order and the surplus slab.
@@ -45,6 +47,7 @@ fn node(size: u8, orders: u8) -> Case {
     Case {
         size,
         orders,
+        mixed: false,
         surplus: None,
         pair: None,
         put: None,
@@ -57,6 +60,13 @@ fn node(size: u8, orders: u8) -> Case {
 fn split(size: u8, orders: u8, pair: bool) -> Case {
     let mut case = node(size, orders);
     case.pair = Some(pair);
+    case
+}
+
+/// Two orders of two colours on one slab, which takes one colour.
+fn mixed() -> Case {
+    let mut case = split(10, 2, true);
+    case.mixed = true;
     case
 }
 
@@ -76,8 +86,28 @@ fn within(case: Case, loss: i8, count: i8) -> Case {
     limited
 }
 
+/// A mill of two orders of two colours, whose slabs take one colour.
+fn mixed_mill(alloc: Global) -> Result<Mill, AllocError> {
+    let first = Order {
+        weight: 5,
+        colour: 1,
+    };
+    let second = Order {
+        weight: 5,
+        colour: 2,
+    };
+    let sizes = vec![in alloc; 10]?;
+    let orders = vec![in alloc; first, second]?;
+    let mut mill = Mill::new(sizes, 2, orders);
+    mill.set_colour_limit(1);
+    Ok(mill)
+}
+
 /// The mill of a case. It has a size of at least 1 and at most 100 orders.
 fn mill_of(alloc: Global, case: Case) -> Result<Mill, AllocError> {
+    if case.mixed {
+        return mixed_mill(alloc);
+    }
     let order = Order {
         weight: 5,
         colour: 1,
@@ -142,8 +172,8 @@ fn came_to(mill: &Mill, turned: &Turned, tally: &Tally) -> Short {
     }
 }
 
-/// What a turn comes to on a new pool.
-fn answer(alloc: Global, case: Case) -> Result<Short, AllocError> {
+/// A turn of a case on a new pool, with the mill, and the counters after it.
+fn taken(alloc: Global, case: Case) -> Result<(Mill, Turned, Tally), AllocError> {
     let mill = mill_of(alloc, case)?;
     let table = LossTable::new(alloc, &mill)?;
     let decisions = decisions_of(alloc, case, &mill)?;
@@ -156,7 +186,33 @@ fn answer(alloc: Global, case: Case) -> Result<Short, AllocError> {
     let turned = turn(
         alloc, &mill, &table, &decisions, limits, &mut pool, &mut tally,
     )?;
+    Ok((mill, turned, tally))
+}
+
+/// What a turn comes to.
+fn answer(alloc: Global, case: Case) -> Result<Short, AllocError> {
+    let (mill, turned, tally) = taken(alloc, case)?;
     Ok(came_to(&mill, &turned, &tally))
+}
+
+/// Whether these are prices on loss and on a new slab, and on these orders and surplus slabs.
+fn are(prices: &Prices, limits: (i64, i64), pi: &[i64], sigma: &[i64]) -> bool {
+    (prices.lambda(), prices.mu()) == limits && prices.pi() == pi && prices.sigma() == sigma
+}
+
+/// Whether a turn refutes by just these prices.
+fn states(
+    alloc: Global,
+    case: Case,
+    limits: (i64, i64),
+    pi: &[i64],
+    sigma: &[i64],
+) -> Result<bool, AllocError> {
+    let (_mill, turned, _tally) = taken(alloc, case)?;
+    match &turned {
+        Turned::Refuted(prices) => Ok(are(prices, limits, pi, sigma)),
+        _ => Ok(false),
+    }
 }
 
 /// Nodes that decisions don't settle, but for the mill whose one order fits no slab.
@@ -176,22 +232,22 @@ fn turns(rt: HostRuntime) -> Result<(), Fail> {
 /// Nodes whose decisions are settled: the one plan, or the prices stated for why it isn't one.
 #[test]
 fn settled_turns(rt: HostRuntime) -> Result<(), Fail> {
+    let alloc = rt.alloc();
     let heavy = split(9, 2, true);
-    assert_eq!(rt; answer(rt.alloc(), heavy)?, Short::Refuted(0, 0));
+    assert!(rt; states(alloc, heavy, (0, 0), &[1, 0], &[])?);
+    assert!(rt; states(alloc, mixed(), (0, 0), &[1, 0], &[])?);
+    assert!(rt; states(alloc, on_surplus(true), (0, 0), &[1], &[0])?);
     let apart = split(10, 2, false);
-    assert_eq!(rt;
-        answer(rt.alloc(), within(apart, 9, 2))?,
-        Short::Refuted(1, 0)
-    );
-    assert_eq!(rt;
-        answer(rt.alloc(), within(apart, 10, 1))?,
-        Short::Refuted(0, 1)
-    );
-    assert_eq!(rt;
-        answer(rt.alloc(), within(apart, 10, 2))?,
-        Short::InBox(10, 2)
-    );
-    assert_eq!(rt; answer(rt.alloc(), on_surplus(true))?, Short::Refuted(0, 0));
+    assert!(rt; states(alloc, within(apart, 9, 2), (1, 0), &[5, 5], &[])?);
+    assert!(rt; states(alloc, within(apart, 10, 1), (0, 1), &[1, 1], &[])?);
+    Ok(())
+}
+
+/// Settled nodes whose one plan is within the limits.
+#[test]
+fn settled_plans(rt: HostRuntime) -> Result<(), Fail> {
+    let apart = within(split(10, 2, false), 10, 2);
+    assert_eq!(rt; answer(rt.alloc(), apart)?, Short::InBox(10, 2));
     assert_eq!(rt; answer(rt.alloc(), on_surplus(false))?, Short::InBox(3, 0));
     Ok(())
 }

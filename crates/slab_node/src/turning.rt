@@ -1,4 +1,4 @@
-ghost use Rattle.std.specs.Prelude.{◌≡◌, ◌≤◌, IfOk, length};
+ghost use Rattle.std.specs.Prelude.{◌≡◌, ◌<◌, ◌≤◌, IfOk, length};
 ghost use Rattle.mill_model.specs.Assignments.{AreSettled};
 ghost use Rattle.mill_model.specs.Decisions.{AreAsks};
 ghost use Rattle.mill_model.specs.Plain.{IsPlainlyRefuted};
@@ -6,8 +6,10 @@ ghost use Rattle.mill_model.specs.Prices.{Refutes};
 ghost use Rattle.slab_decide.specs.Decided.{AreConsistent, IsFirstOpen};
 ghost use Rattle.slab_columns.specs.Pool.{HasGrown};
 ghost use Rattle.slab_relax.specs.PoolCovers.{IsPoolCover, HasLeastLoss};
+ghost use Rattle.slab_relax.specs.AtNodes.{RefutesAt, IsCoverAt, HasLeastLossAt};
 ghost use Rattle.slab_relax.specs.Tallies.{AreNoLess, HasCause};
-ghost use Rattle.slab_node.specs.Turns.{IsNode, IsInBox, IsOpenAsk, IfRefuted, IfInBox, IfSpread, IfBare, IfAsks, IsRefuted, IsClosed, IsTurn};
+ghost use Rattle.slab_node.specs.AtNodes.{IsInBoxAt, IsOpenAskAt};
+ghost use Rattle.slab_node.specs.Turns.{IsNode, IsRenewed, IsInBox, IsOpenAsk, IfRefuted, IfInBox, IfSpread, IfBare, IfAsks, IsRefuted, IsClosed, IsTurn};
 
 use crate::choose::{Choice, choose};
 use crate::plain::plain_prices;
@@ -32,17 +34,17 @@ fn turn_open(
     tally: &mut Tally,
 ) -> Result<Turned, AllocError>
     requires mill { pool.old.mill ≡ node.now.mill.now }
-    requires question { IsOpenAsk node.now.mill.now node.now.decisions.now.list undecided }
+    requires question { IsOpenAskAt node.now undecided }
     requires asks { AreAsks node.now.mill.now node.now.decisions.now.list }
     requires consistent { AreConsistent node.now.decisions.now.list }
-    ensures refuted { IfOk result (λ t. IfRefuted t (Refutes node.now.mill.now node.now.limits node.now.decisions.now.list)) }
-    ensures in_box { IfOk result (λ t. IfInBox t (IsInBox node.now.mill.now node.now.limits node.now.decisions.now.list)) }
-    ensures cover { IfOk result (λ t. IfSpread t (IsPoolCover node.now.mill.now node.now.limits node.now.decisions.now.list pool.new.columns)) }
+    ensures refuted { IfOk result (λ t. IfRefuted t (RefutesAt node.now)) }
+    ensures in_box { IfOk result (λ t. IfInBox t (IsInBoxAt node.now)) }
+    ensures cover { IfOk result (λ t. IfSpread t (IsCoverAt node.now pool.new.columns)) }
     ensures cause { IfOk result (λ t. IfBare t (λ _. HasCause tally.old tally.new)) }
     ensures first { IfOk result (λ t. IfBare t (λ ask. ask ≡ undecided)) }
-    ensures ask { IfOk result (λ t. IfAsks t (IsOpenAsk node.now.mill.now node.now.decisions.now.list)) }
+    ensures ask { IfOk result (λ t. IfAsks t (IsOpenAskAt node.now)) }
     ensures least { (HasCause tally.old tally.new → ⊥)
-        → IfOk result (λ t. IfSpread t (HasLeastLoss node.now.mill.now node.now.limits node.now.decisions.now.list pool.new.columns)) }
+        → IfOk result (λ t. IfSpread t (HasLeastLossAt node.now pool.new.columns)) }
     ensures counters { AreNoLess tally.old tally.new }
     ensures grown { HasGrown pool.old pool.new }
 {
@@ -77,7 +79,8 @@ pub fn turn(
     // What each answer carries.
     ensures refuted { IfOk result (λ t. IfRefuted t (Refutes mill.now limits decisions.now.list)) }
     ensures in_box { IfOk result (λ t. IfInBox t (IsInBox mill.now limits decisions.now.list)) }
-    ensures cover { IfOk result (λ t. IfSpread t (IsPoolCover mill.now limits decisions.now.list pool.new.columns)) }
+    ensures cover { IfOk result (λ t. IfSpread t
+        (IsPoolCover mill.now limits decisions.now.list pool.new.columns)) }
     ensures cause { IfOk result (λ t. IfBare t (λ _. HasCause tally.old tally.new)) }
     ensures first { IfOk result (λ t. IfBare t (IsFirstOpen decisions.now)) }
     ensures ask { IfOk result (λ t. IfAsks t (IsOpenAsk mill.now decisions.now.list)) }
@@ -88,7 +91,8 @@ pub fn turn(
 
     // With no cause for less the cover has the least loss that columns of the pool can have.
     ensures least { (HasCause tally.old tally.new → ⊥)
-        → IfOk result (λ t. IfSpread t (HasLeastLoss mill.now limits decisions.now.list pool.new.columns)) }
+        → IfOk result (λ t. IfSpread t
+        (HasLeastLoss mill.now limits decisions.now.list pool.new.columns)) }
 
     // The same in short, for a search that doesn't keep the pool.
     ensures turned { IfOk result (IsTurn mill.now limits decisions.now.list tally.old tally.new) }
@@ -97,6 +101,11 @@ pub fn turn(
     ensures counters { AreNoLess tally.old tally.new }
     ensures mill { pool.new.mill ≡ mill.now }
     ensures grown { length pool.old.columns ≤ 4096 → HasGrown pool.old pool.new }
+    ensures renewed { 4096 < length pool.old.columns → IsRenewed pool.old pool.new }
+
+    // Settled decisions and limits that plain prices refute need no pool.
+    ensures unused { AreSettled mill.now decisions.now.list → pool.new ≡ pool.old }
+    ensures untouched { IsPlainlyRefuted mill.now limits → pool.new ≡ pool.old }
 {
     let node = Node {
         mill,

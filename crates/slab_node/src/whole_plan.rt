@@ -1,12 +1,6 @@
 //! The plan of a cover that answers each question by yes or no.
 ghost use Rattle.std.specs.Prelude.{◌≡◌, ◌<◌, IfOk, length};
-ghost use Rattle.mill_model.specs.Covers.{IsCover};
-ghost use Rattle.mill_model.specs.Decisions.{AreAsks};
-ghost use Rattle.slab_relax.specs.PoolCovers.{parts_of};
 ghost use Rattle.slab_node.specs.Grouped.{slab_of};
-ghost use Rattle.slab_node.specs.Shares.{IsWhole};
-ghost use Rattle.slab_node.specs.Taken.{IsTaken, AreTaken};
-ghost use Rattle.slab_node.specs.Turns.{IsInBox};
 
 use crate::kinds::kinds_of;
 use crate::plans::plan_by;
@@ -32,10 +26,15 @@ fn surplus(kind: Kind) -> Option<u16>
 }
 
 impl Wholes<'_> {
+    ghost use Rattle.mill_model.specs.Decisions.{AreAsks};
+    ghost use Rattle.slab_node.specs.AtNodes.{IsInBoxAt};
+    ghost use Rattle.slab_node.specs.Taken.{IsTaken, AreTaken};
+    ghost use Rattle.slab_node.specs.OfWholes.{parts_in, IsCoverIn, IsWholeIn};
+
     // The first order and the surplus slab of the first column that has an order.
     fn group(&self, order: u16) -> (u16, Option<u16>)
         requires { order < length self.now.node.mill.now.orders }
-        ensures { IsTaken (parts_of self.now.pool.now.columns self.now.cover.now self.now.times.now) order result.0 result.1 }
+        ensures { IsTaken (parts_in self.now) order result.0 result.1 }
     {
         for part in self.cover {
             let column = self.pool.column(part.0);
@@ -48,7 +47,8 @@ impl Wholes<'_> {
 
     // The group of each order.
     fn groups(&self, alloc: Global) -> Result<Groups, AllocError>
-        ensures { IfOk result (λ g. AreTaken self.now.node.mill.now (parts_of self.now.pool.now.columns self.now.cover.now self.now.times.now) g.heads.items g.slabs.items) }
+        ensures { IfOk result (λ g. AreTaken self.now.node.mill.now (parts_in self.now)
+            g.heads.items g.slabs.items) }
     {
         let count = self.node.mill.orders().len();
         let mut heads = Vec::with_capacity(alloc, count)?;
@@ -63,10 +63,10 @@ impl Wholes<'_> {
 
     // The plan of the groups, each on its surplus slab or on a new one of the least size that holds it.
     pub(crate) fn plan(&self, alloc: Global) -> Result<Plan, AllocError>
-        requires cover { IsCover self.now.node.mill.now self.now.node.limits self.now.node.decisions.now.list self.now.whole (parts_of self.now.pool.now.columns self.now.cover.now self.now.times.now) }
-        requires whole { IsWhole self.now.node.mill.now self.now.whole (parts_of self.now.pool.now.columns self.now.cover.now self.now.times.now) }
+        requires cover { IsCoverIn self.now }
+        requires whole { IsWholeIn self.now }
         requires asks { AreAsks self.now.node.mill.now self.now.node.decisions.now.list }
-        ensures { IfOk result (IsInBox self.now.node.mill.now self.now.node.limits self.now.node.decisions.now.list) }
+        ensures { IfOk result (IsInBoxAt self.now.node) }
     {
         let _few = self.node.mill.orders();
         let groups = self.groups(alloc)?;

@@ -2,9 +2,8 @@
 ghost use Rattle.std.specs.Prelude.{◌≡◌, ℕ, ◌+◌, ◌*◌, ◌^◌, ◌<◌, ◌≤◌, cond, IfOk, IfSome, IfNone, length, slice_index, unsigned_abs};
 ghost use Rattle.mill_model.specs.declared.ask.Ask.{Ask};
 ghost use Rattle.mill_model.specs.Columns.{Rises, has};
-ghost use Rattle.mill_model.specs.Decisions.{IsAsk};
 ghost use Rattle.slab_relax.specs.PoolCovers.{parts_of};
-ghost use Rattle.slab_node.specs.Shares.{AreTimes, CoversOrders, share, IsFractional, IsWhole};
+ghost use Rattle.slab_node.specs.Shares.{AreTimes, CoversOrders};
 
 use mill_model::{Ask, Kind};
 use slab_columns::{ColId, Pool};
@@ -22,14 +21,16 @@ pub(crate) struct Wholes<'a> {
     pub whole: u64,
     pub ghost belongs: { pool.now.mill ≡ node.mill.now },
     pub ghost numbers: { AreTimes pool.now.columns cover.now times.now },
-    pub ghost covers: { CoversOrders node.mill.now whole (parts_of pool.now.columns cover.now times.now) },
+    pub ghost covers: { CoversOrders node.mill.now whole
+        (parts_of pool.now.columns cover.now times.now) },
 }
 
 // Adds so much at each of some rising places.
 fn add_at(sums: &mut [u128], places: &[u16], amount: u128)
     requires rises { Rises 0 (length sums.old) places.now }
     requires room { (j : ℕ) → j < length sums.old → slice_index sums.old j + amount < 2 ^ 128 }
-    ensures { (j : ℕ) → j < length sums.old → slice_index sums.new j ≡ slice_index sums.old j + cond (has places.now j) amount 0 }
+    ensures { (j : ℕ) → j < length sums.old
+        → slice_index sums.new j ≡ slice_index sums.old j + cond (has places.now j) amount 0 }
 {
     for place in places {
         sums[*place as usize] += amount;
@@ -38,8 +39,10 @@ fn add_at(sums: &mut [u128], places: &[u16], amount: u128)
 
 // The first sum from a place on that is above 0 and below the whole.
 fn first_partial(sums: &[u128], from: usize, whole: u128) -> Option<usize>
-    ensures some { IfSome result (λ j. (from ≤ j) × (j < length sums.now) × (0 < slice_index sums.now j) × (slice_index sums.now j < whole)) }
-    ensures none { IfNone result ((j : ℕ) → from ≤ j → j < length sums.now → 0 < slice_index sums.now j → slice_index sums.now j < whole → ⊥) }
+    ensures some { IfSome result (λ j. (from ≤ j) × (j < length sums.now)
+        × (0 < slice_index sums.now j) × (slice_index sums.now j < whole)) }
+    ensures none { IfNone result ((j : ℕ) → from ≤ j → j < length sums.now
+        → 0 < slice_index sums.now j → slice_index sums.now j < whole → ⊥) }
 {
     for j in from..sums.len() {
         if 0 < sums[j] && sums[j] < whole {
@@ -50,11 +53,14 @@ fn first_partial(sums: &[u128], from: usize, whole: u128) -> Option<usize>
 }
 
 impl Wholes<'_> {
+    ghost use Rattle.slab_node.specs.OfWholes.{share_in, IsPartialIn, HasWholePairs, HasWholePuts, IsWholeIn};
+
     // For each order, how much of the cover has it together with this one.
     fn pair_shares(&self, order: u16, shares: &mut [u128])
         requires { length shares.old ≡ length self.now.node.mill.now.orders }
         ensures size { length shares.new ≡ length shares.old }
-        ensures shares { (j : ℕ) → j < length shares.old → slice_index shares.new j ≡ share (parts_of self.now.pool.now.columns self.now.cover.now self.now.times.now) (Ask.Pair order j) }
+        ensures shares { (j : ℕ) → j < length shares.old
+            → slice_index shares.new j ≡ share_in self.now (Ask.Pair order j) }
     {
         shares.fill(0);
         for (p, part) in self.cover.iter().enumerate() {
@@ -73,7 +79,8 @@ impl Wholes<'_> {
     fn put_shares(&self, order: u16, shares: &mut [u128])
         requires { length shares.old ≡ length self.now.node.mill.now.yard }
         ensures size { length shares.new ≡ length shares.old }
-        ensures shares { (s : ℕ) → s < length shares.old → slice_index shares.new s ≡ share (parts_of self.now.pool.now.columns self.now.cover.now self.now.times.now) (Ask.Put order s) }
+        ensures shares { (s : ℕ) → s < length shares.old
+            → slice_index shares.new s ≡ share_in self.now (Ask.Put order s) }
     {
         shares.fill(0);
         for (p, part) in self.cover.iter().enumerate() {
@@ -90,8 +97,8 @@ impl Wholes<'_> {
 
     // The first pair that the cover answers in part.
     fn partial_pair(&self, alloc: Global) -> Result<Option<Ask>, AllocError>
-        ensures some { IfOk result (λ found. IfSome found (λ ask. IsAsk self.now.node.mill.now ask × IsFractional self.now.whole (parts_of self.now.pool.now.columns self.now.cover.now self.now.times.now) ask)) }
-        ensures none { IfOk result (λ found. IfNone found ((i j : ℕ) → i < j → j < length self.now.node.mill.now.orders → IsFractional self.now.whole (parts_of self.now.pool.now.columns self.now.cover.now self.now.times.now) (Ask.Pair i j) → ⊥)) }
+        ensures some { IfOk result (λ found. IfSome found (IsPartialIn self.now)) }
+        ensures none { IfOk result (λ found. IfNone found (HasWholePairs self.now)) }
     {
         let count = self.node.mill.orders().len();
         let mut shares = vec![in alloc; 0; count]?;
@@ -106,8 +113,8 @@ impl Wholes<'_> {
 
     // The first put that it answers in part.
     fn partial_put(&self, alloc: Global) -> Result<Option<Ask>, AllocError>
-        ensures some { IfOk result (λ found. IfSome found (λ ask. IsAsk self.now.node.mill.now ask × IsFractional self.now.whole (parts_of self.now.pool.now.columns self.now.cover.now self.now.times.now) ask)) }
-        ensures none { IfOk result (λ found. IfNone found ((o s : ℕ) → o < length self.now.node.mill.now.orders → s < length self.now.node.mill.now.yard → IsFractional self.now.whole (parts_of self.now.pool.now.columns self.now.cover.now self.now.times.now) (Ask.Put o s) → ⊥)) }
+        ensures some { IfOk result (λ found. IfSome found (IsPartialIn self.now)) }
+        ensures none { IfOk result (λ found. IfNone found (HasWholePuts self.now)) }
     {
         let count = self.node.mill.yard().len();
         let mut shares = vec![in alloc; 0; count]?;
@@ -122,8 +129,8 @@ impl Wholes<'_> {
 
     // The first question that the cover answers in part, if any: pairs come before puts.
     pub(crate) fn partial_ask(&self, alloc: Global) -> Result<Option<Ask>, AllocError>
-        ensures some { IfOk result (λ found. IfSome found (λ ask. IsAsk self.now.node.mill.now ask × IsFractional self.now.whole (parts_of self.now.pool.now.columns self.now.cover.now self.now.times.now) ask)) }
-        ensures none { IfOk result (λ found. IfNone found (IsWhole self.now.node.mill.now self.now.whole (parts_of self.now.pool.now.columns self.now.cover.now self.now.times.now))) }
+        ensures some { IfOk result (λ found. IfSome found (IsPartialIn self.now)) }
+        ensures none { IfOk result (λ found. IfNone found (IsWholeIn self.now)) }
     {
         match self.partial_pair(alloc)? {
             Some(ask) => Ok(Some(ask)),

@@ -8,6 +8,7 @@ use Rattle.mill_model.specs.declared.ask.Ask.TheVariants.{Pair}
 use Rattle.mill_model.specs.Columns.{has}
 use Rattle.mill_model.specs.Decisions.{Decision}
 use Rattle.mill_model.specs.Assignments.{Follows}
+use Rattle.pricing_laws.proofs.Pairs.{both_or_neither}
 use Rattle.pricing_laws.specs.Groups.{head_of, AreHeads}
 use Rattle.mill_model.proofs.SameGroups.{same_group-true, same_group_from}
 use Rattle.mill_model.proofs.Agreement.{column_follows}
@@ -17,12 +18,6 @@ use Rattle.slab_price.specs.Groupings.{AreAlike, IsHead}
 
 -- ---- orders that lie together
 
-both_or_neither : (s t : Bool) → cond s t (not t) ≡ true → t ≡ s
-both_or_neither true true e = refl
-both_or_neither true false e = e
-both_or_neither false true e = sym e
-both_or_neither false false e = refl
-
 not_both : (s t : Bool) → not (s && t) ≡ true → s ≡ true → t ≡ true → ⊥
 not_both s t e f g = both_ways (not (s && t)) (ap₂ (λ x y. not (x && y)) f g) e
 
@@ -30,7 +25,7 @@ module _ (decisions : List Decision) (consistent : AreConsistent decisions) (fir
   -- a column that agrees with decisions that put two orders together has both or neither
   pub alike_where_together : (answer : Option Bool) → IfSome answer (λ b. Follows decisions (Pair first second) b) → OnTrue (option_eq beq answer (Some true)) (AreAlike decisions second first)
   alike_where_together None some = tt
-  alike_where_together (Some true) some = λ c agree. both_or_neither (has c.orders first) (has c.orders second) (column_follows c decisions consistent.0 (Pair first second) true consistent.1 agree some)
+  alike_where_together (Some true) some = λ c agree. sym (both_or_neither (has c.orders first) (has c.orders second) (column_follows c decisions consistent.0 (Pair first second) true consistent.1 agree some))
   alike_where_together (Some false) some = tt
 
   -- one that agrees with decisions that keep them apart hasn't both

@@ -26,24 +26,3 @@ pub record IsImproved (q : Problem) (old new : Best) (IsSo : Column → Type 0) 
 
 abbrev pub IsImprovedIn : Task → Best → Best → (Column → Type 0) → Type 0
 IsImprovedIn t old new IsSo = IsImproved (problem_of t) old new IsSo
-
--- some orders that may lie on one slab, by their colours, with their load and gain
-pub record IsPack (q : Problem) (orders : List ℕ) (weight : ℕ) (gain : ℤ) : Type 0 where
-  pub rises : Rises 0 (length q.mill.orders) orders
-  pub some : 0 < length orders
-  pub colours : colours_of q.mill orders ≤ q.mill.colour_limit
-  pub load_is : weight ≡ load q.mill orders
-  pub gain_is : gain ≡ gains_of q.mill q.prices orders
-  pub small : unsigned_abs gain ≤ 2 ^ 92
-
--- ---- columns of these orders
-
-abbrev pub IsColumn : Kind → List ℕ → Column → Type 0
-IsColumn kind orders c = c ≡ record { kind = kind; orders = orders }
-
-abbrev pub IsOnNew : List ℕ → Column → Type 0
-IsOnNew orders c = (size : ℕ) × IsColumn (New size) orders c
-
--- on one of the first so many surplus slabs
-abbrev pub IsOnYard : ℕ → List ℕ → Column → Type 0
-IsOnYard slabs orders c = (s : ℕ) × (s < slabs) × IsColumn (Old s) orders c

@@ -1,10 +1,8 @@
 pub mod Excess
 pub mod Found
 pub mod Tasks
-pub mod Chains
 pub mod Groupings
 pub mod Frames
-pub mod Grids
 pub mod Tables
 pub mod Searches
 pub mod Hunts

@@ -7,7 +7,7 @@ ghost use Rattle.pricing_laws.specs.Groups.{AreApart, IsApart};
 use mill_model::Ask;
 use slab_decide::Decisions;
 
-/// Whether the decisions keep an order apart from a later one.
+// Whether the decisions keep an order apart from a later one.
 fn keeps_apart(decisions: &Decisions, first: u16, second: u16) -> bool
     requires order { first < second }
     requires orders { second < decisions.now.orders }
@@ -16,7 +16,7 @@ fn keeps_apart(decisions: &Decisions, first: u16, second: u16) -> bool
     decisions.follows(Ask::Pair(first, second)) == Some(false)
 }
 
-/// Whether the decisions keep two orders apart.
+// Whether the decisions keep two orders apart.
 fn are_apart(decisions: &Decisions, one: u16, other: u16) -> bool
     requires one { one < decisions.now.orders }
     requires other { other < decisions.now.orders }
@@ -28,7 +28,7 @@ fn are_apart(decisions: &Decisions, one: u16, other: u16) -> bool
     other < one && keeps_apart(decisions, other, one)
 }
 
-/// Whether the decisions keep a head apart from one of some others.
+// Whether the decisions keep a head apart from one of some others.
 pub(crate) fn is_apart(decisions: &Decisions, others: &[u16], head: u16) -> bool
     requires head { head < decisions.now.orders }
     requires others { (other : ℕ) → has others.now other ≡ true → other < decisions.now.orders }

@@ -2,7 +2,8 @@
 ghost use Rattle.std.specs.Prelude.{◌≡◌, ◌+◌, ◌<◌, length, take};
 ghost use Rattle.std.specs.Bool.{OnTrue, OnFalse};
 ghost use Rattle.pricing_laws.specs.Groups.{head_of};
-ghost use Rattle.slab_price.specs.Searches.{AreGathered, AreHeadsIn, AreRanked, IsGroupIn, IsQueue, IsTabulated};
+ghost use Rattle.pricing_laws.specs.Searches.{AreGathered, AreHeadsIn, AreRanked, IsGroupIn, IsQueue, IsTabulated};
+ghost use Rattle.slab_price.specs.Searches.{queue_of, search_of};
 
 use crate::grid::Grid;
 use crate::queue::Queue;
@@ -10,12 +11,12 @@ use crate::search::Search;
 use crate::table::step_for;
 
 impl Search<'_> {
-    /// Whether all orders of a group are of some colours.
+    // Whether all orders of a group are of some colours.
     fn is_group_of(&self, head: u16, colours: &[u16]) -> bool
         requires inside { head < length self.now.task.mill.now.orders }
         requires own { head_of self.now.frame.now.groups.heads head ≡ head }
-        ensures yes { OnTrue result (IsGroupIn self.now colours.now head) }
-        ensures no { OnFalse result (IsGroupIn self.now colours.now head → ⊥) }
+        ensures yes { OnTrue result (IsGroupIn (search_of self.now) colours.now head) }
+        ensures no { OnFalse result (IsGroupIn (search_of self.now) colours.now head → ⊥) }
     {
         let orders = self.task.mill.orders();
         let mut order = self.frame.by_head.first[usize::from(head)];
@@ -28,13 +29,13 @@ impl Search<'_> {
         true
     }
 
-    /// Gathers the groups whose head has one of the colours.
+    // Gathers the groups whose head has one of the colours.
     fn gather_colour(&self, colours: &[u16], at: usize, queue: &mut Queue)
         requires at { at < length colours.now }
-        requires ranked { AreRanked self.now colours.now }
-        requires gathered { AreGathered self.now colours.now (take at colours.now)
+        requires ranked { AreRanked (search_of self.now) colours.now }
+        requires gathered { AreGathered (search_of self.now) colours.now (take at colours.now)
             queue.old.heads.items }
-        ensures gathered { AreGathered self.now colours.now (take (at + 1) colours.now)
+        ensures gathered { AreGathered (search_of self.now) colours.now (take (at + 1) colours.now)
             queue.new.heads.items }
     {
         let orders = self.task.mill.orders().len();
@@ -47,10 +48,10 @@ impl Search<'_> {
         }
     }
 
-    /// Gathers the groups of the colours.
+    // Gathers the groups of the colours.
     fn gather(&self, colours: &[u16], queue: &mut Queue)
-        requires { AreRanked self.now colours.now }
-        ensures { AreGathered self.now colours.now colours.now queue.new.heads.items }
+        requires { AreRanked (search_of self.now) colours.now }
+        ensures { AreGathered (search_of self.now) colours.now colours.now queue.new.heads.items }
     {
         queue.heads.clear();
         for at in 0..colours.len() {
@@ -58,11 +59,11 @@ impl Search<'_> {
         }
     }
 
-    /// Fills the table of the queue, with the least step for which there is room.
+    // Fills the table of the queue, with the least step for which there is room.
     fn tabulate(&self, queue: &mut Queue)
-        requires heads { AreHeadsIn self.now queue.old.heads.items }
+        requires heads { AreHeadsIn (search_of self.now) queue.old.heads.items }
         ensures heads { queue.new.heads ≡ queue.old.heads }
-        ensures table { IsTabulated self.now queue.new }
+        ensures table { IsTabulated (search_of self.now) (queue_of queue.new) }
     {
         let room = self.frame.ends.len() - 1;
         queue.step = step_for(queue.heads.len(), room, queue.table.capacity());
@@ -77,10 +78,10 @@ impl Search<'_> {
         grid.tabulate(&mut queue.table);
     }
 
-    /// Fills the queue with the groups of the colours.
+    // Fills the queue with the groups of the colours.
     pub(crate) fn fill(&self, colours: &[u16], queue: &mut Queue)
-        requires { AreRanked self.now colours.now }
-        ensures { IsQueue self.now colours.now queue.new }
+        requires { AreRanked (search_of self.now) colours.now }
+        ensures { IsQueue (search_of self.now) colours.now (queue_of queue.new) }
     {
         self.gather(colours, queue);
         self.tabulate(queue);

@@ -1,16 +1,17 @@
 //! What a walk goes by.
 ghost use Rattle.std.proofs.Props.{props};
 ghost use Rattle.pricing_laws.specs.Parts.{AreDistinct-prop};
-ghost use Rattle.slab_price.specs.Searches.{IsQueue};
+ghost use Rattle.pricing_laws.specs.Searches.{IsQueue};
+ghost use Rattle.slab_price.specs.Searches.{queue_of, search_of};
 
 use crate::queue::Queue;
 use crate::search::Search;
 
-/// A search, some colours, and the queue of their groups.
+// A search, some colours, and the queue of their groups.
 #[derive(Clone, Copy)]
 pub(crate) struct Hunt<'a> {
     pub search: Search<'a>,
     pub colours: &'a [u16],
     pub queue: &'a Queue,
-    ghost queued: { IsQueue search colours.now queue.now } by { Prim.hlevel (props, AreDistinct-prop) },
+    ghost queued: { IsQueue (search_of search) colours.now (queue_of queue.now) } by { Prim.hlevel (props, AreDistinct-prop) },
 }

@@ -4,14 +4,15 @@ ghost use Rattle.mill_model.specs.declared.kind.Kind.{Kind};
 ghost use Rattle.mill_model.specs.Columns.{IsInStock, has_barred, size_of};
 ghost use Rattle.mill_model.specs.LeastSizes.{IsOfLeastSize};
 ghost use Rattle.slab_price.specs.Tasks.{problem_of};
-ghost use Rattle.slab_price.specs.Bests.{IsImprovedIn, IsPack, IsColumn, IsOnNew, IsOnYard};
+ghost use Rattle.pricing_laws.specs.Packs.{IsPack, IsColumn, IsOnNew, IsOnYard};
+ghost use Rattle.slab_price.specs.Bests.{IsImprovedIn};
 
 use crate::best::Best;
 use crate::task::Task;
 use mill_model::Kind;
 
 impl Task<'_> {
-    /// Whether one of the orders mustn't lie on the slab.
+    // Whether one of the orders mustn't lie on the slab.
     fn has_barred(&self, kind: Kind, orders: &[u16]) -> bool
         ensures { result ≡ has_barred self.now.mill.now
             (record { kind = kind; orders = orders.now }) }
@@ -27,7 +28,7 @@ impl Task<'_> {
         false
     }
 
-    /// Takes the orders on a slab that holds them, where that column is allowed and better than the best.
+    // Takes the orders on a slab that holds them, where that column is allowed and better than the best.
     fn offer_on(&self, kind: Kind, weight: u32, gain: i128, orders: &[u16], best: &mut Best)
         requires pack { IsPack (problem_of self.now) orders.now weight gain }
         requires stock { IsInStock self.now.mill.now kind }
@@ -45,7 +46,7 @@ impl Task<'_> {
         best.replace(kind, orders, excess);
     }
 
-    /// Takes the orders on the least new slab that holds them, where that column is allowed and better than the best.
+    // Takes the orders on the least new slab that holds them, where that column is allowed and better than the best.
     fn offer_new(&self, weight: u32, gain: i128, orders: &[u16], best: &mut Best)
         requires { IsPack (problem_of self.now) orders.now weight gain }
         ensures { IsImprovedIn self.now best.old best.new (IsOnNew orders.now) }
@@ -55,7 +56,7 @@ impl Task<'_> {
         }
     }
 
-    /// Takes the orders on a surplus slab, where it holds them and that column is allowed and better than the best.
+    // Takes the orders on a surplus slab, where it holds them and that column is allowed and better than the best.
     fn offer_old(&self, slab: u16, weight: u32, gain: i128, orders: &[u16], best: &mut Best)
         requires pack { IsPack (problem_of self.now) orders.now weight gain }
         requires stock { slab < length self.now.mill.now.yard }
@@ -66,7 +67,7 @@ impl Task<'_> {
         }
     }
 
-    /// Takes the orders on the best surplus slab, where that column is allowed and better than the best.
+    // Takes the orders on the best surplus slab, where that column is allowed and better than the best.
     fn offer_yard(&self, weight: u32, gain: i128, orders: &[u16], best: &mut Best)
         requires { IsPack (problem_of self.now) orders.now weight gain }
         ensures { IsImprovedIn self.now best.old best.new
@@ -78,7 +79,7 @@ impl Task<'_> {
         }
     }
 
-    /// Takes the orders on the best slab, where that column is allowed and better than the best.
+    // Takes the orders on the best slab, where that column is allowed and better than the best.
     pub(crate) fn offer(&self, weight: u32, gain: i128, orders: &[u16], best: &mut Best)
         requires { IsPack (problem_of self.now) orders.now weight gain }
         ensures { IsImprovedIn self.now best.old best.new (λ c. c.orders ≡ orders.now) }

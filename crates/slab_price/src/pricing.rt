@@ -26,8 +26,10 @@ pub fn worst(
 ) -> Result<Option<Found>, AllocError>
     requires together { BelongTogether mill.now table.now decisions.now prices.now }
     requires lambda { pos 0 ≤ℤ prices.now.lambda }
-    ensures some { IfOk result (λ answer. IfSome answer (IsWorst mill.now decisions.now.list prices.now)) }
-    ensures none { IfOk result (λ answer. IfNone answer (IsGreatest mill.now decisions.now.list prices.now (pos 0))) }
+    ensures some { IfOk result (λ answer.
+        IfSome answer (IsWorst mill.now decisions.now.list prices.now)) }
+    ensures none { IfOk result (λ answer.
+        IfNone answer (IsGreatest mill.now decisions.now.list prices.now (pos 0))) }
 {
     let count = mill.orders().len();
     let task = Task {

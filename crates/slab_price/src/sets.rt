@@ -7,8 +7,9 @@ ghost use Rattle.pricing_laws.specs.Parts.{left_of};
 ghost use Rattle.pricing_laws.specs.Problems.{ExceedAtMost};
 ghost use Rattle.pricing_laws.specs.Worths.{worth_of};
 ghost use Rattle.slab_price.specs.Bests.{IsImprovedIn};
-ghost use Rattle.slab_price.specs.Searches.{AreRanked, AreTakenFrom, IsOfSetIn, IsQueue};
+ghost use Rattle.pricing_laws.specs.Searches.{AreRanked, AreTakenFrom, IsOfSetIn, IsQueue};
 ghost use Rattle.slab_price.specs.Tasks.{problem_of};
+ghost use Rattle.slab_price.specs.Searches.{queue_of, search_of};
 
 use crate::hunt::Hunt;
 use crate::picks::Picks;
@@ -17,7 +18,7 @@ use crate::search::Search;
 use smallvec::SmallVec;
 use std::alloc::Global;
 
-/// A set of colours that is gone through, and room for its groups.
+// A set of colours that is gone through, and room for its groups.
 #[derive(Drop)]
 pub(crate) struct Space {
     pub colours: SmallVec<u16, 3>,
@@ -26,7 +27,7 @@ pub(crate) struct Space {
 }
 
 impl Space {
-    /// No colour yet.
+    // No colour yet.
     pub(crate) fn new(alloc: Global, queue: Queue) -> Space
         ensures { result.colours.items ≡ [] }
     {
@@ -38,7 +39,7 @@ impl Space {
 }
 
 impl Search<'_> {
-    /// What a colour among the first ones of the ranking is worth at most.
+    // What a colour among the first ones of the ranking is worth at most.
     fn top(&self, rank: usize) -> i128
         requires { rank ≤ length self.now.frame.now.ranking.items }
         ensures most { (colour : ℕ)
@@ -53,21 +54,22 @@ impl Search<'_> {
         self.frame.worths[usize::from(self.frame.ranking[rank - 1])]
     }
 
-    /// Whether no column of the colours taken and of some of those left exceeds more than the best.
+    // Whether no column of the colours taken and of some of those left exceeds more than the best.
     fn is_hopeless(&self, rank: usize, left: u16, worth: i128, best: i128) -> bool
         requires rank { rank ≤ length self.now.frame.now.ranking.items }
         requires left { left ≤ 3 }
         requires small { unsigned_abs worth ≤ 2 ^ 100 }
-        ensures { (taken : List ℕ) → AreTakenFrom self.now rank taken worth
+        ensures { (taken : List ℕ) → AreTakenFrom (search_of self.now) rank taken worth
             → OnTrue result
-            (ExceedAtMost (problem_of self.now.task) best (IsOfSetIn self.now taken rank left)) }
+            (ExceedAtMost (problem_of self.now.task) best
+            (IsOfSetIn (search_of self.now) taken rank left)) }
     {
         worth + i128::from(left) * self.top(rank) - self.frame.floor <= best
     }
 
-    /// Improves the best by the columns of the colours of a queue.
+    // Improves the best by the columns of the colours of a queue.
     fn walk_queue(&self, colours: &[u16], queue: &Queue, picks: &mut Picks)
-        requires queue { IsQueue self.now colours.now queue.now }
+        requires queue { IsQueue (search_of self.now) colours.now (queue_of queue.now) }
         requires chosen { picks.old.chosen.items ≡ [] }
         ensures chosen { picks.new.chosen.items ≡ [] }
         ensures improved { IsImprovedIn self.now.task picks.old.best picks.new.best
@@ -81,9 +83,9 @@ impl Search<'_> {
         hunt.walk(queue.heads.len(), 0, 0, picks);
     }
 
-    /// Improves the best by the columns of some colours.
+    // Improves the best by the columns of some colours.
     fn search_set(&self, colours: &[u16], queue: &mut Queue, picks: &mut Picks)
-        requires ranked { AreRanked self.now colours.now }
+        requires ranked { AreRanked (search_of self.now) colours.now }
         requires chosen { picks.old.chosen.items ≡ [] }
         ensures chosen { picks.new.chosen.items ≡ [] }
         ensures improved { IsImprovedIn self.now.task picks.old.best picks.new.best
@@ -93,8 +95,8 @@ impl Search<'_> {
         self.walk_queue(colours, queue, picks);
     }
 
-    /// Improves the best by the columns of the colours taken and of at most so many of the first ones of the ranking. A set is
-    /// left out only where its bound isn't above the best.
+    // Improves the best by the columns of the colours taken and of at most so many of the first ones of the ranking. A set is
+    // left out only where its bound isn't above the best.
     pub(crate) fn search_sets(
         &self,
         rank: usize,
@@ -105,12 +107,12 @@ impl Search<'_> {
     )
         requires rank { rank ≤ length self.now.frame.now.ranking.items }
         requires few { length space.old.colours.items + left ≤ self.now.task.mill.now.colour_limit }
-        requires taken { AreTakenFrom self.now rank space.old.colours.items worth }
+        requires taken { AreTakenFrom (search_of self.now) rank space.old.colours.items worth }
         requires chosen { picks.old.chosen.items ≡ [] }
         ensures colours { space.new.colours.items ≡ space.old.colours.items }
         ensures chosen { picks.new.chosen.items ≡ [] }
         ensures improved { IsImprovedIn self.now.task picks.old.best picks.new.best
-            (IsOfSetIn self.now space.old.colours.items rank left) }
+            (IsOfSetIn (search_of self.now) space.old.colours.items rank left) }
     {
         if self.is_hopeless(rank, left, worth, picks.best.excess) {
             return;

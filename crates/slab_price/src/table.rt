@@ -1,14 +1,15 @@
 //! What the first groups of a queue gain at most beside a load, less the cost of a slab that holds them all.
 ghost use Rattle.std.specs.Prelude.{◌≡◌, ◌+◌, ◌-◌, ◌*◌, ◌/◌, ◌^◌, ◌<◌, ◌≤◌, pos, ◌+ℤ◌, ◌≤ℤ◌, unsigned_abs, length, slice_index_or, vec_capacity};
+ghost use Rattle.mill_model.specs.Mill.{most_orders, most_weight};
 ghost use Rattle.pricing_laws.specs.Bounds.{AreSmall};
 ghost use Rattle.slab_price.specs.Tables.{IsTableOf};
 
 use crate::grid::Grid;
 
-/// The least step of the load for which a table of so many groups fits, and has no more entries than a walk has leaves.
+// The least step of the load for which a table of so many groups fits, and has no more entries than a walk has leaves.
 pub(crate) fn step_for(groups: usize, room: usize, entries: usize) -> usize
-    requires groups { groups ≤ 250 }
-    requires room { room ≤ 10000 }
+    requires groups { groups ≤ most_orders }
+    requires room { room ≤ most_weight }
     requires entries { groups + 1 ≤ entries }
     ensures some { 0 < result }
     ensures fits { (groups + 1) * (room / result + 1) ≤ entries }
@@ -18,7 +19,7 @@ pub(crate) fn step_for(groups: usize, room: usize, entries: usize) -> usize
     room / width + 1
 }
 
-/// An entry, from the row before: without a group more, or with it where a slab holds it.
+// An entry, from the row before: without a group more, or with it where a slab holds it.
 fn entry(row: usize, table: &[i128], width: usize, column: usize, jump: usize, gain: i128) -> i128
     requires row { row + width ≤ length table.now }
     requires column { column < width }
@@ -39,7 +40,7 @@ fn entry(row: usize, table: &[i128], width: usize, column: usize, jump: usize, g
 }
 
 impl Grid<'_> {
-    /// Adds the row of no group: the ends.
+    // Adds the row of no group: the ends.
     fn push_ends(&self, table: &mut Vec<i128>)
         requires none { length table.old.items ≡ 0 }
         requires room { self.now.width ≤ vec_capacity table.old }
@@ -52,7 +53,7 @@ impl Grid<'_> {
         }
     }
 
-    /// Adds the row of one group more.
+    // Adds the row of one group more.
     fn push_row(&self, at: usize, table: &mut Vec<i128>)
         requires at { at < length self.now.heads.now }
         requires size { length table.old.items ≡ (at + 1) * self.now.width }
@@ -72,7 +73,7 @@ impl Grid<'_> {
         }
     }
 
-    /// Fills the table, row by row.
+    // Fills the table, row by row.
     pub(crate) fn tabulate(&self, table: &mut Vec<i128>)
         requires { (length self.now.heads.now + 1) * self.now.width ≤ vec_capacity table.old }
         ensures size { length table.new.items ≡ (length self.now.heads.now + 1) * self.now.width }

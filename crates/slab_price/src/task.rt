@@ -5,7 +5,7 @@ use loss_table::LossTable;
 use mill_model::{Mill, Prices};
 use slab_decide::Decisions;
 
-/// A mill with all that is asked about it.
+// A mill with all that is asked about it.
 #[derive(Clone, Copy)]
 pub(crate) struct Task<'a> {
     pub mill: &'a Mill,

@@ -1,20 +1,22 @@
 //! The walk over the columns of some colours, group by group.
 ghost use Rattle.std.specs.Prelude.{◌≡◌, ◌+◌, ◌^◌, ◌<◌, ◌≤◌, ℤ, ◌-ℤ◌, unsigned_abs, IfNone, IfSome, length, vec_capacity};
+ghost use Rattle.mill_model.specs.Mill.{most_orders};
 ghost use Rattle.std.specs.Bool.{OnTrue};
 ghost use Rattle.pricing_laws.specs.Groups.{members};
 ghost use Rattle.slab_price.specs.Bests.{IsImprovedIn};
 ghost use Rattle.pricing_laws.specs.Problems.{ExceedAtMost};
-ghost use Rattle.slab_price.specs.Hunts.{AreTakenIn, AreTakenWith, IsChoiceIn, IsChoiceWith, IsMostIn};
+ghost use Rattle.pricing_laws.specs.Hunts.{AreTakenIn, AreTakenWith, IsChoiceIn, IsChoiceWith, IsMostIn};
 ghost use Rattle.slab_price.specs.Tasks.{problem_of};
+ghost use Rattle.slab_price.specs.Hunts.{hunt_of};
 
 use crate::apart::is_apart;
 use crate::hunt::Hunt;
 use crate::picks::Picks;
 
-/// Lists the orders whose heads are among some.
+// Lists the orders whose heads are among some.
 fn list_members(heads: &[u16], chosen: &[u16], orders: &mut Vec<u16>)
-    requires few { length heads.now ≤ 250 }
-    requires room { 250 ≤ vec_capacity orders.old }
+    requires few { length heads.now ≤ most_orders }
+    requires room { most_orders ≤ vec_capacity orders.old }
     ensures members { orders.new.items ≡ members heads.now chosen.now }
     ensures room { vec_capacity orders.new ≡ vec_capacity orders.old }
 {
@@ -27,11 +29,11 @@ fn list_members(heads: &[u16], chosen: &[u16], orders: &mut Vec<u16>)
 }
 
 impl Hunt<'_> {
-    /// What the first groups of the queue gain at most beside a load.
+    // What the first groups of the queue gain at most beside a load.
     fn most(&self, left: usize, load: u32) -> i128
         requires left { left ≤ length self.now.queue.now.heads.items }
         requires load { load < length self.now.search.frame.now.ends.items }
-        ensures most { IsMostIn self.now left load result }
+        ensures most { IsMostIn (hunt_of self.now) left load result }
         ensures small { unsigned_abs result ≤ 2 ^ 110 }
     {
         if left == 0 {
@@ -41,22 +43,22 @@ impl Hunt<'_> {
         self.queue.table[left * self.queue.width + column]
     }
 
-    /// Whether the groups chosen and some of the first ones can't exceed more than the best.
+    // Whether the groups chosen and some of the first ones can't exceed more than the best.
     fn is_hopeless(&self, left: usize, load: u32, gain: i128, best: i128) -> bool
         requires left { left ≤ length self.now.queue.now.heads.items }
         requires load { load < length self.now.search.frame.now.ends.items }
         requires small { unsigned_abs gain ≤ 2 ^ 92 }
-        ensures { OnTrue result (IsMostIn self.now left load (best -ℤ gain)) }
+        ensures { OnTrue result (IsMostIn (hunt_of self.now) left load (best -ℤ gain)) }
     {
         gain + self.most(left, load) <= best
     }
 
-    /// Offers the orders of the groups chosen.
+    // Offers the orders of the groups chosen.
     fn offer(&self, weight: u32, gain: i128, picks: &mut Picks)
-        requires { AreTakenIn self.now 0 picks.old.chosen.items weight gain }
+        requires { AreTakenIn (hunt_of self.now) 0 picks.old.chosen.items weight gain }
         ensures chosen { picks.new.chosen.items ≡ picks.old.chosen.items }
         ensures improved { IsImprovedIn self.now.search.task picks.old.best picks.new.best
-            (IsChoiceIn self.now picks.old.chosen.items 0) }
+            (IsChoiceIn (hunt_of self.now) picks.old.chosen.items 0) }
     {
         let heads = self.search.frame.groups.heads();
         list_members(heads, &picks.chosen, &mut picks.orders);
@@ -67,17 +69,18 @@ impl Hunt<'_> {
         }
     }
 
-    /// The weight and the gain with one group more, if a slab holds it too and no decision keeps it apart.
+    // The weight and the gain with one group more, if a slab holds it too and no decision keeps it apart.
     fn with_group(&self, at: usize, weight: u32, gain: i128, chosen: &[u16]) -> Option<(u32, i128)>
         requires at { at < length self.now.queue.now.heads.items }
         requires light { weight < length self.now.search.frame.now.ends.items }
-        requires taken { AreTakenIn self.now (at + 1) chosen.now weight gain }
+        requires taken { AreTakenIn (hunt_of self.now) (at + 1) chosen.now weight gain }
         ensures none { IfNone result ((most : ℤ)
             → ExceedAtMost (problem_of self.now.search.task) most
-            (IsChoiceWith self.now chosen.now at)) }
+            (IsChoiceWith (hunt_of self.now) chosen.now at)) }
         ensures light { IfSome result (λ sums.
             sums.0 < length self.now.search.frame.now.ends.items) }
-        ensures taken { IfSome result (λ sums. AreTakenWith self.now at chosen.now sums.0 sums.1) }
+        ensures taken { IfSome result (λ sums.
+            AreTakenWith (hunt_of self.now) at chosen.now sums.0 sums.1) }
     {
         let head = self.queue.heads[at];
         let heavier = weight + self.search.frame.groups.weight(head as usize);
@@ -90,14 +93,14 @@ impl Hunt<'_> {
         Some((heavier, gain + self.search.frame.groups.gain(head as usize)))
     }
 
-    /// Improves the best by the columns of the groups chosen and some of the first ones of the queue. A branch is left out only
-    /// where its bound isn't above the best, or where no column has its groups.
+    // Improves the best by the columns of the groups chosen and some of the first ones of the queue. A branch is left out only
+    // where its bound isn't above the best, or where no column has its groups.
     pub(crate) fn walk(&self, left: usize, weight: u32, gain: i128, picks: &mut Picks)
         requires light { weight < length self.now.search.frame.now.ends.items }
-        requires taken { AreTakenIn self.now left picks.old.chosen.items weight gain }
+        requires taken { AreTakenIn (hunt_of self.now) left picks.old.chosen.items weight gain }
         ensures chosen { picks.new.chosen.items ≡ picks.old.chosen.items }
         ensures improved { IsImprovedIn self.now.search.task picks.old.best picks.new.best
-            (IsChoiceIn self.now picks.old.chosen.items left) }
+            (IsChoiceIn (hunt_of self.now) picks.old.chosen.items left) }
     {
         if self.is_hopeless(left, weight, gain, picks.best.excess) {
             return;

@@ -1,16 +1,17 @@
 //! What the groups of each colour are worth.
 ghost use Rattle.std.specs.Prelude.{◌≡◌, ◌^◌, ◌<◌, ◌≤◌, IfOk, length, unsigned_abs};
 ghost use Rattle.pricing_laws.specs.Worths.{worth_at};
-ghost use Rattle.slab_price.specs.Frames.{AreGroupsIn, AreWorthsIn};
+ghost use Rattle.pricing_laws.specs.Frames.{AreGroupsIn, AreWorthsIn};
+ghost use Rattle.slab_price.specs.Tasks.{problem_of};
 
 use crate::groups::Groups;
 use crate::task::Task;
 use std::alloc::{AllocError, Global};
 
 impl Task<'_> {
-    /// What a group is worth: what it gains, without the loss that its weight saves.
+    // What a group is worth: what it gains, without the loss that its weight saves.
     fn worth(&self, groups: &Groups, head: usize) -> i128
-        requires groups { AreGroupsIn self.now groups.now }
+        requires groups { AreGroupsIn (problem_of self.now) groups.now }
         requires head { head < length self.now.mill.now.orders }
         ensures worth { result ≡ worth_at self.now.prices.now groups.now head }
         ensures small { unsigned_abs result ≤ 2 ^ 86 }
@@ -19,10 +20,10 @@ impl Task<'_> {
         groups.gain(head) - saved
     }
 
-    /// For each colour, the positive worths of the groups whose head has it, summed up.
+    // For each colour, the positive worths of the groups whose head has it, summed up.
     pub(crate) fn worths(&self, alloc: Global, groups: &Groups) -> Result<Vec<i128>, AllocError>
-        requires { AreGroupsIn self.now groups.now }
-        ensures { IfOk result (λ worths. AreWorthsIn self.now groups.now worths.items) }
+        requires { AreGroupsIn (problem_of self.now) groups.now }
+        ensures { IfOk result (λ worths. AreWorthsIn (problem_of self.now) groups.now worths.items) }
     {
         let mut worths = vec![in alloc; 0i128; self.mill.colours() as usize + 1]?;
         let mut at = self.mill.orders().len();

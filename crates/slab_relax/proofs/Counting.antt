@@ -7,10 +7,10 @@ use Rattle.slab_relax.specs.declared.tally.Tally.{Tally}
 use Rattle.slab_relax.specs.Tallies.{AreNoLess, HasCause, IsAtLast, HaveCauses}
 
 pub no_less_same : (a : Tally) → AreNoLess a a
-no_less_same a = record { wides = omega arith; stalls = omega arith; fulls = omega arith }
+no_less_same a = record { wides = omega arith; stalls = omega arith; pivots = omega arith; fulls = omega arith }
 
 pub no_less_trans : (a b c : Tally) → AreNoLess a b → AreNoLess b c → AreNoLess a c
-no_less_trans a b c h k = record { wides = omega arith; stalls = omega arith; fulls = omega arith }
+no_less_trans a b c h k = record { wides = omega arith; stalls = omega arith; pivots = omega arith; fulls = omega arith }
 
 -- ---- a cause in a part of a time is one in all of it
 

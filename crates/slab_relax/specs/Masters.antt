@@ -1,5 +1,5 @@
 -- The restricted master of a node: the pool's columns that agree with the decisions, over the rows of the mill.
-use Rattle.std.specs.Prelude.{◌≡◌, ◌+◌, ◌<◌, ℤ, pos, List, map, length}
+use Rattle.std.specs.Prelude.{◌≡◌, ◌+◌, ◌<◌, ℤ, pos, List, [], ◌∷◌, ◌++◌, map, length}
 use Rattle.std.specs.List.{All, filter, zip}
 use Rattle.std.specs.Int.{is_positive}
 use Rattle.slab_frac.specs.Fraction.{Fraction}
@@ -9,7 +9,7 @@ use Rattle.mill_model.specs.Columns.{Column, loss_of}
 use Rattle.mill_model.specs.Decisions.{Decision, column_agrees}
 use Rattle.mill_model.specs.Prices.{Prices}
 use Rattle.slab_frac.specs.Scaled.{AreInRange}
-use Rattle.slab_master.specs.Given.{Given}
+use Rattle.slab_master.specs.Given.{Given, Entry}
 use Rattle.slab_master.specs.Prices.{ArePricesAt}
 use Rattle.slab_columns.specs.declared.column.ColId.{ColId}
 use Rattle.slab_relax.specs.declared.node.Node.{Node}
@@ -25,6 +25,10 @@ allowed_of decisions columns = filter (column_agrees decisions) columns
 -- the master over the columns that agree
 abbrev pub master_by : Mill → Limits → List Decision → List Column → Given
 master_by m limits decisions columns = record { rows = rows_of m limits; columns = map (entries_of m limits) (allowed_of decisions columns) }
+
+-- a master with a column more
+abbrev pub with_column : Given → List Entry → Given
+with_column given entries = record given { columns = given.columns ++ entries ∷ [] }
 
 -- the numbers name the columns that agree, in order
 pub record AreAllowedIds (decisions : List Decision) (columns : List Column) (ids : List ColId) : Type 0 where
@@ -51,3 +55,7 @@ used_of ids xs = filter (λ (part : ColId × Fraction). is_positive part.1.num) 
 -- what columns lose, as costs
 abbrev pub losses_of : Mill → List Column → List ℤ
 losses_of m cs = map (λ (c : Column). pos (loss_of m c)) cs
+
+-- what the columns lose that a node allows
+abbrev pub losses_at : Node → List Column → List ℤ
+losses_at node columns = losses_of node.mill.now (allowed_of node.decisions.now.list columns)

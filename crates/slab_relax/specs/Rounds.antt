@@ -36,3 +36,9 @@ abbrev pub OnCounted : Relaxed → Type 0 → Type 0
 OnCounted (Refuted p) P = Unit {0}
 OnCounted (Covered cover) P = Unit {0}
 OnCounted Counted P = P
+
+-- it's a cover
+abbrev pub IsCovered : Relaxed → Type 0
+IsCovered (Refuted p) = ⊥
+IsCovered (Covered cover) = Unit {0}
+IsCovered Counted = ⊥

@@ -7,6 +7,7 @@ use Rattle.slab_relax.specs.declared.tally.Tally.{Tally}
 pub record AreNoLess (old new : Tally) : Type 0 where
   pub wides : old.wides ≤ new.wides
   pub stalls : old.stalls.stalls ≤ new.stalls.stalls
+  pub pivots : old.stalls.pivots ≤ new.stalls.pivots
   pub fulls : old.fulls ≤ new.fulls
 
 -- one of the counters rose, or stands at its last value

@@ -75,7 +75,8 @@ impl Restricted {
     ) -> Result<Option<Prices>, AllocError>
         requires rows { length self.now.master.rows ≡ row_count mill.now }
         requires prices { ArePrices self.now.master.rows self.now.master.columns list.now }
-        ensures some { IfOk result (λ answer. IfSome answer (AreFarkas mill.now limits self.now.master)) }
+        ensures some { IfOk result (λ answer. IfSome answer
+            (AreFarkas mill.now limits self.now.master)) }
         ensures none { IfOk result (λ answer. IfNone answer (Rose wides.old wides.new)) }
         ensures grows { wides.old ≤ wides.new }
     {

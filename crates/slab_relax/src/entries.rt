@@ -66,7 +66,8 @@ fn put_loss(
     limit: Option<i64>,
     loss: u16,
 ) -> Result<(), AllocError>
-    ensures { OnOk result (entries.new.items ≡ entries.old.items ++ loss_entries mill.now limit loss) }
+    ensures { OnOk result (entries.new.items
+        ≡ entries.old.items ++ loss_entries mill.now limit loss) }
 {
     if let Some(_number) = limit {
         let row = mill.orders().len() + mill.yard().len();
@@ -82,7 +83,8 @@ fn put_count(
     limit: Option<i64>,
     kind: Kind,
 ) -> Result<(), AllocError>
-    ensures { OnOk result (entries.new.items ≡ entries.old.items ++ count_entries mill.now limit kind) }
+    ensures { OnOk result (entries.new.items
+        ≡ entries.old.items ++ count_entries mill.now limit kind) }
 {
     if let Some(_number) = limit {
         if let Kind::New(_size) = kind {
@@ -103,7 +105,8 @@ pub(crate) fn put_entries(
     entries: &mut Vec<(u16, i64)>,
 ) -> Result<(), AllocError>
     requires { IsLegalColumn mill.now (column_of kind orders.now) }
-    ensures value { OnOk result (entries.new.items ≡ entries_of mill.now limits (column_of kind orders.now)) }
+    ensures value { OnOk result (entries.new.items
+        ≡ entries_of mill.now limits (column_of kind orders.now)) }
     ensures column { OnOk result (IsColumn (row_count mill.now) entries.new.items) }
 {
     entries.clear();

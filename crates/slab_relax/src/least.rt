@@ -4,13 +4,15 @@ ghost use Rattle.mill_model.specs.Columns.{loss_of};
 ghost use Rattle.slab_master.specs.Given.{IsSmall};
 ghost use Rattle.slab_master.specs.Least.{AreCosts};
 ghost use Rattle.slab_master.specs.Spread.{IsSpread};
-ghost use Rattle.slab_relax.specs.PoolCovers.{column_at, IsPoolCover, HasLeastLoss};
-ghost use Rattle.slab_relax.specs.Masters.{IsRestricted, losses_of, allowed_of};
+ghost use Rattle.slab_relax.specs.PoolCovers.{column_at};
+ghost use Rattle.slab_relax.specs.AtNodes.{IsCoverAt, HasLeastLossAt};
+ghost use Rattle.slab_relax.specs.Masters.{IsRestricted, losses_at};
+ghost use Rattle.slab_relax.specs.Rounds.{IfCovered, IsCovered};
 ghost use Rattle.slab_relax.specs.Tallies.{AreNoLess, HasCause};
 
 use crate::entries::loss_of;
 use crate::restricted::Restricted;
-use crate::{Cover, Node, Tally};
+use crate::{Node, Relaxed, Tally};
 use slab_columns::{ColId, Pool};
 use slab_master::{FracList, Least};
 use std::alloc::{AllocError, Global};
@@ -31,8 +33,8 @@ impl Restricted {
     fn losses(&self, alloc: Global, node: &Node<'_>, pool: &Pool) -> Result<Vec<i64>, AllocError>
         requires mill { pool.now.mill ≡ node.now.mill.now }
         requires restricted { IsRestricted node.now pool.now.columns self.now }
-        ensures value { IfOk result (λ losses. losses.items ≡ losses_of node.now.mill.now (allowed_of node.now.decisions.now.list pool.now.columns)) }
-        ensures costs { IfOk result (λ losses. AreCosts (length self.now.master.columns) losses.items) }
+        ensures value { IfOk result (λ ls. ls.items ≡ losses_at node.now pool.now.columns) }
+        ensures costs { IfOk result (λ ls. AreCosts (length self.now.master.columns) ls.items) }
     {
         let mut losses = Vec::with_capacity(alloc, self.ids.len())?;
         for id in &self.ids {
@@ -41,7 +43,8 @@ impl Restricted {
         Ok(losses)
     }
 
-    // The cover of least loss, where a second solve finds it, else that of the multipliers that the first one found.
+    // The cover of least loss, where a second solve finds it, else that of the multipliers that the first one found: it's always
+    // a cover.
     pub(crate) fn least_cover(
         &mut self,
         alloc: Global,
@@ -49,12 +52,15 @@ impl Restricted {
         pool: &Pool,
         found: &FracList,
         tally: &mut Tally,
-    ) -> Result<Cover, AllocError>
+    ) -> Result<Relaxed, AllocError>
         requires mill { pool.now.mill ≡ node.now.mill.now }
         requires restricted { IsRestricted node.now pool.now.columns self.old }
         requires spread { IsSpread self.old.master.rows self.old.master.columns found.now }
-        ensures covers { IfOk result (IsPoolCover node.now.mill.now node.now.limits node.now.decisions.now.list pool.now.columns) }
-        ensures least { (HasCause tally.old tally.new → ⊥) → IfOk result (HasLeastLoss node.now.mill.now node.now.limits node.now.decisions.now.list pool.now.columns) }
+        ensures covered { IfOk result IsCovered }
+        ensures covers { IfOk result (λ r. IfCovered r (IsCoverAt node.now pool.now.columns)) }
+        ensures least { (HasCause tally.old tally.new → ⊥)
+            → IfOk result (λ r. IfCovered r (HasLeastLossAt node.now pool.now.columns)) }
+        ensures restricted { self.new ≡ self.old }
         ensures counters { AreNoLess tally.old tally.new }
     {
         let _legal = pool.len();
@@ -63,10 +69,31 @@ impl Restricted {
             .master
             .solve_least(alloc, &losses, &mut tally.wides, &mut tally.stalls)?;
         match solved {
-            Least::Best { x, y: _y } => self.cover(alloc, node, pool, x.list()),
+            Least::Best { x, y: _y } => {
+                let lesser = self.cover(alloc, node, pool, x.list())?;
+                Ok(Relaxed::Covered(lesser))
+            }
             Least::Prices(_prices) => unreachable!(),
-            Least::Wide => self.cover(alloc, node, pool, found.list()),
-            Least::Stalled => self.cover(alloc, node, pool, found.list()),
+            Least::Wide => self.covered(alloc, node, pool, found),
+            Least::Stalled => self.covered(alloc, node, pool, found),
         }
+    }
+
+    // The cover of multipliers that meet every row, as an answer.
+    fn covered(
+        &self,
+        alloc: Global,
+        node: &Node<'_>,
+        pool: &Pool,
+        found: &FracList,
+    ) -> Result<Relaxed, AllocError>
+        requires mill { pool.now.mill ≡ node.now.mill.now }
+        requires restricted { IsRestricted node.now pool.now.columns self.now }
+        requires spread { IsSpread self.now.master.rows self.now.master.columns found.now }
+        ensures covered { IfOk result IsCovered }
+        ensures covers { IfOk result (λ r. IfCovered r (IsCoverAt node.now pool.now.columns)) }
+    {
+        let cover = self.cover(alloc, node, pool, found.list())?;
+        Ok(Relaxed::Covered(cover))
     }
 }

@@ -1,8 +1,7 @@
 //! The relaxation, round by round.
 ghost use Rattle.std.specs.Prelude.{◌≡◌, IfOk};
-ghost use Rattle.mill_model.specs.Prices.{Refutes};
 ghost use Rattle.slab_columns.specs.Pool.{HasGrown};
-ghost use Rattle.slab_relax.specs.PoolCovers.{IsPoolCover, HasLeastLoss};
+ghost use Rattle.slab_relax.specs.AtNodes.{RefutesAt, IsCoverAt, HasLeastLossAt};
 ghost use Rattle.slab_relax.specs.Tallies.{AreNoLess, HasCause};
 ghost use Rattle.slab_relax.specs.Rounds.{IfRefuted, IfCovered, OnCounted};
 
@@ -25,22 +24,27 @@ pub fn relax(
     tally: &mut Tally,
 ) -> Result<Relaxed, AllocError>
     requires { pool.old.mill ≡ node.now.mill.now }
-    ensures refuted { IfOk result (λ r. IfRefuted r (Refutes node.now.mill.now node.now.limits node.now.decisions.now.list)) }
-    ensures covered { IfOk result (λ r. IfCovered r (IsPoolCover node.now.mill.now node.now.limits node.now.decisions.now.list pool.new.columns)) }
+    ensures refuted { IfOk result (λ r. IfRefuted r (RefutesAt node.now)) }
+    ensures covered { IfOk result (λ r. IfCovered r (IsCoverAt node.now pool.new.columns)) }
     ensures counted { IfOk result (λ r. OnCounted r (HasCause tally.old tally.new)) }
     ensures least { (HasCause tally.old tally.new → ⊥)
-        → IfOk result (λ r. IfCovered r (HasLeastLoss node.now.mill.now node.now.limits node.now.decisions.now.list pool.new.columns)) }
+        → IfOk result (λ r. IfCovered r (HasLeastLossAt node.now pool.new.columns)) }
     ensures counters { AreNoLess tally.old tally.new }
     ensures grown { HasGrown pool.old pool.new }
 {
     let mut restricted = Restricted::new(alloc, node, pool)?;
+    restricted.hint(alloc, pool)?;
     'rounds: loop {
         match restricted.one_round(alloc, node, pool, tally)? {
             Round::Grew => {}
-            Round::Refuted(prices) => return Ok(Relaxed::Refuted(prices)),
+            Round::Refuted(prices) => {
+                restricted.note(alloc, node, pool)?;
+                return Ok(Relaxed::Refuted(prices));
+            }
             Round::Met(multipliers) => {
-                let cover = restricted.least_cover(alloc, node, pool, &multipliers, tally)?;
-                return Ok(Relaxed::Covered(cover));
+                let relaxed = restricted.least_cover(alloc, node, pool, &multipliers, tally)?;
+                restricted.note(alloc, node, pool)?;
+                return Ok(relaxed);
             }
             Round::Counted => return Ok(Relaxed::Counted),
         }

@@ -22,7 +22,7 @@ pub(crate) struct Restricted {
 }
 
 impl Restricted {
-    ghost use Rattle.slab_relax.specs.Masters.{IsRestricted};
+    ghost use Rattle.slab_relax.specs.Masters.{IsRestricted, with_column};
 
     // The master over the pool as it stands.
     pub(crate) fn new(alloc: Global, node: &Node<'_>, pool: &Pool) -> Result<Restricted, AllocError>
@@ -56,7 +56,8 @@ impl Restricted {
     ) -> Result<(), AllocError>
         requires rows { self.old.master.rows ≡ rows_of node.now.mill.now node.now.limits }
         requires legal { IsLegalColumn node.now.mill.now (column_of kind orders.now) }
-        ensures master { OnOk result (self.new.master ≡ record self.old.master { columns = self.old.master.columns ++ entries_of node.now.mill.now node.now.limits (column_of kind orders.now) ∷ [] }) }
+        ensures master { OnOk result (self.new.master ≡ with_column self.old.master
+            (entries_of node.now.mill.now node.now.limits (column_of kind orders.now))) }
         ensures ids { OnOk result (self.new.ids.items ≡ self.old.ids.items ++ id ∷ []) }
     {
         put_entries(node.mill, node.limits, kind, orders, &mut self.entries)?;

@@ -3,7 +3,7 @@ ghost use Rattle.std.specs.Prelude.{◌≡◌, ◌≤◌, ◌<◌, ◌+◌, IfOk
 ghost use Rattle.mill_model.specs.Columns.{IsLegalColumn};
 ghost use Rattle.mill_model.specs.Decisions.{column_agrees};
 ghost use Rattle.slab_counter.specs.Counter.{Rose};
-ghost use Rattle.slab_columns.specs.Columns.{column_of};
+ghost use Rattle.slab_price.specs.Excess.{column_of as found_column};
 ghost use Rattle.slab_columns.specs.Pool.{IsPool, HasGrown};
 ghost use Rattle.slab_relax.specs.Masters.{IsRestricted};
 ghost use Rattle.slab_relax.specs.Rounds.{RoundHolds};
@@ -45,9 +45,9 @@ impl Restricted {
     ) -> Result<bool, AllocError>
         requires mill { pool.old.mill ≡ node.now.mill.now }
         requires restricted { IsRestricted node.now pool.old.columns self.old }
-        requires legal { IsLegalColumn node.now.mill.now (column_of found.now.kind found.now.orders) }
-        requires agrees { column_agrees node.now.decisions.now.list (column_of found.now.kind found.now.orders) ≡ true }
-        requires stranger { ¬ Contains pool.old.columns (column_of found.now.kind found.now.orders) }
+        requires legal { IsLegalColumn node.now.mill.now (found_column found.now) }
+        requires agrees { column_agrees node.now.decisions.now.list (found_column found.now) ≡ true }
+        requires stranger { ¬ Contains pool.old.columns (found_column found.now) }
         ensures grew { result ≡ Ok true → length pool.new.columns ≡ length pool.old.columns + 1 }
         ensures full { result ≡ Ok false → Rose fulls.old fulls.new }
         ensures restricted { OnOk result (IsRestricted node.now pool.new.columns self.new) }
@@ -74,7 +74,8 @@ impl Restricted {
     ) -> Result<Round, AllocError>
         requires mill { pool.old.mill ≡ node.now.mill.now }
         requires restricted { IsRestricted node.now pool.old.columns self.old }
-        ensures holds { IfOk result (RoundHolds node.now self.new.master pool.old pool.new tally.old tally.new) }
+        ensures holds { IfOk result
+            (RoundHolds node.now self.new.master pool.old pool.new tally.old tally.new) }
         ensures restricted { OnOk result (IsRestricted node.now pool.new.columns self.new) }
         ensures grown { HasGrown pool.old pool.new }
         ensures pool { IsPool pool.new }

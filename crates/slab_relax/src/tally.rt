@@ -18,7 +18,8 @@ pub struct Tally {
 impl Tally {
     /// Three counts of nothing.
     pub fn new() -> Tally
-        ensures { result ≡ record { wides = 0; stalls = record { stalls = 0; pivots = 0 }; fulls = 0 } }
+        ensures { result
+            ≡ record { wides = 0; stalls = record { stalls = 0; pivots = 0 }; fulls = 0 } }
     {
         Tally {
             wides: Wides::new(),

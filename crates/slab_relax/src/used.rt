@@ -1,7 +1,7 @@
 //! The columns that the master uses, as a cover.
 ghost use Rattle.std.specs.Prelude.{◌≡◌, IfOk, length};
 ghost use Rattle.slab_master.specs.Spread.{IsSpread};
-ghost use Rattle.slab_relax.specs.PoolCovers.{IsPoolCover};
+ghost use Rattle.slab_relax.specs.AtNodes.{IsCoverAt};
 ghost use Rattle.slab_relax.specs.Masters.{used_of, IsRestricted};
 
 use crate::restricted::Restricted;
@@ -37,7 +37,7 @@ impl Restricted {
         requires restricted { IsRestricted node.now pool.now.columns self.now }
         requires spread { IsSpread self.now.master.rows self.now.master.columns multipliers.now }
         ensures value { IfOk result (λ cover. cover ≡ used_of self.now.ids.items multipliers.now) }
-        ensures covers { IfOk result (IsPoolCover node.now.mill.now node.now.limits node.now.decisions.now.list pool.now.columns) }
+        ensures covers { IfOk result (IsCoverAt node.now pool.now.columns) }
     {
         let _legal = pool.len();
         self.used(alloc, multipliers)

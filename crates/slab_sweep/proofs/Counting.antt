@@ -8,7 +8,7 @@ use Rattle.mill_model.specs.Trees.{most_nodes}
 use Rattle.slab_relax.specs.Tallies.{AreNoLess, HaveCauses}
 use Rattle.slab_relax.specs.declared.tally.Tally.{Tally}
 use Rattle.slab_tree.specs.Counts.{Counts}
-use Rattle.slab_tree.proofs.Tallies.{causes_trans}
+use Rattle.slab_relax.proofs.Counting.{causes_trans}
 use Rattle.slab_sweep.specs.Counting.{most_questions, OpensFew, OpensOneTree, CountsNodes, CountsBares}
 use Rattle.slab_sweep.specs.Progress.{HasRoomFor}
 

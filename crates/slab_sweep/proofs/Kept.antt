@@ -9,7 +9,7 @@ use Rattle.slab_tree.specs.Marking.{bare_marks}
 use Rattle.slab_sweep.specs.Openings.{Telling, count_after, opening_after}
 use Rattle.slab_sweep.specs.Made.{IsMade, IsFound, AreMadeFrom, AreKept, GoesOnFrom, nodes_of, bares_of}
 use Rattle.slab_sweep.specs.Placing.{placed}
-use Rattle.slab_sweep.specs.Swept.{added_to}
+use Rattle.slab_sweep.specs.Swept.{AreWithin, added_to}
 use Rattle.slab_sweep.proofs.Heads.{place_cases}
 
 -- ---- points that are kept
@@ -84,11 +84,17 @@ bares_placed [] point = omega arith
 bares_placed (last ∷ []) point = place_cases last point (λ zs. bares_of zs ≤ bares_of (last ∷ []) + bare_marks point.steps.marks) (λ same. omega arith) (λ other. omega arith)
 bares_placed (first ∷ next ∷ points) point = omega (arith, bares_placed (next ∷ points) point)
 
+within_placed : (limit : ℕ) (points : List Point) (point : Point) → AreWithin limit points → length point.steps.steps ≤ limit → AreWithin limit (placed points point)
+within_placed limit [] point all few = (few, tt)
+within_placed limit (last ∷ []) point all few = place_cases last point (λ zs. AreWithin limit zs) (λ same. (all.0, tt)) (λ other. (all.0, (few, tt)))
+within_placed limit (first ∷ next ∷ points) point all few = (all.0, within_placed limit (next ∷ points) point all.1 few)
+
 -- where a point was placed, the trees of the new points have few nodes and bare splits more
 pub record IsPlacedOn (told : Telling) (m : Mill) (before points : List Point) (point : Point) : Type 0 where
   pub goes_on : GoesOnFrom told m before (placed points point)
   pub few_nodes : nodes_of (added_to before (placed points point)) ≤ nodes_of (added_to before points) + length point.steps.steps
   pub few_bares : bares_of (added_to before (placed points point)) ≤ bares_of (added_to before points) + bare_marks point.steps.marks
+  pub within : (limit : ℕ) → AreWithin limit (added_to before points) → length point.steps.steps ≤ limit → AreWithin limit (added_to before (placed points point))
 
 module _ (told : Telling) (m : Mill) (before : List Point) where
   made_placed : (b : Option Sums) (added : List Point) (point : Point) → 0 < length added → AreMadeFrom told m b added → IsFound m (opening_after told m (last_sums b added)) point → AreMadeFrom told m b (placed added point)
@@ -98,11 +104,13 @@ module _ (told : Telling) (m : Mill) (before : List Point) where
       (λ other. (made.0, (found.tree, tt)))
   made_placed b (x ∷ next ∷ added) point some made found = (made.0, made_placed (Some x.sums) (next ∷ added) point (omega arith) made.1 found)
 
-  counted : (points : List Point) (point : Point) (w : GoesOnFrom told m before points) (v : GoesOnFrom told m before (placed points point)) → nodes_of v.added ≤ nodes_of w.added + length point.steps.steps → bares_of v.added ≤ bares_of w.added + bare_marks point.steps.marks → IsPlacedOn told m before points point
-  counted points point w v nodes bares = record {
+  counted : (points : List Point) (point : Point) (w : GoesOnFrom told m before points) (v : GoesOnFrom told m before (placed points point)) → nodes_of v.added ≤ nodes_of w.added + length point.steps.steps → bares_of v.added ≤ bares_of w.added + bare_marks point.steps.marks
+      → ((limit : ℕ) → AreWithin limit w.added → length point.steps.steps ≤ limit → AreWithin limit v.added) → IsPlacedOn told m before points point
+  counted points point w v nodes bares within = record {
     goes_on = v;
     few_nodes = omega (arith, nodes, ap nodes_of (added_is told m before points w), ap nodes_of (added_is told m before (placed points point) v));
     few_bares = omega (arith, bares, ap bares_of (added_is told m before points w), ap bares_of (added_is told m before (placed points point) v));
+    within = λ limit all few. subst (λ (ps : List Point). AreWithin limit ps) (sym (added_is told m before (placed points point) v)) (within limit (subst (λ (ps : List Point). AreWithin limit ps) (added_is told m before points w) all) few);
   }
 
   parts : (kept added : List Point) (point : Point) → AreKept before kept → AreMadeFrom told m (last_sums None kept) added → IsFound m (opening_after told m (last_sums None (kept ++ added))) point → IsPlacedOn told m before (kept ++ added) point
@@ -112,10 +120,10 @@ module _ (told : Telling) (m : Mill) (before : List Point) where
       now = record { kept = kept; added = []; points_are = sym (append-nil kept); are_kept = h; made = tt }
 
       by : AreKept before (placed kept point) ⊎ (placed kept point ≡ kept ++ point ∷ []) → IsPlacedOn told m before kept point
-      by (inl k) = counted kept point now (record { kept = placed kept point; added = []; points_are = sym (append-nil (placed kept point)); are_kept = k; made = tt }) (omega arith) (omega arith)
+      by (inl k) = counted kept point now (record { kept = placed kept point; added = []; points_are = sym (append-nil (placed kept point)); are_kept = k; made = tt }) (omega arith) (omega arith) (λ limit all few. all)
       by (inr e) =
           let here : IsFound m (opening_after told m (last_sums None kept)) point = subst (λ (ks : List Point). IsFound m (opening_after told m (last_sums None ks)) point) (append-nil kept) found in
-          counted kept point now (record { kept = kept; added = point ∷ []; points_are = e; are_kept = h; made = (here.tree, tt) }) (omega arith) (omega arith)
+          counted kept point now (record { kept = kept; added = point ∷ []; points_are = e; are_kept = h; made = (here.tree, tt) }) (omega arith) (omega arith) (λ limit all few. (few, tt))
   parts kept (a ∷ added) point h made found =
       let here : IsFound m (opening_after told m (last_sums (last_sums None kept) (a ∷ added))) point = subst (λ (b : Option Sums). IsFound m (opening_after told m b) point) (last_append None kept (a ∷ added)) found in
       counted (kept ++ (a ∷ added)) point
@@ -123,6 +131,7 @@ module _ (told : Telling) (m : Mill) (before : List Point) where
       (record { kept = kept; added = placed (a ∷ added) point; points_are = placed-append kept a added point; are_kept = h; made = made_placed (last_sums None kept) (a ∷ added) point (omega arith) made here })
       (nodes_placed (a ∷ added) point)
       (bares_placed (a ∷ added) point)
+      (λ limit all few. within_placed limit (a ∷ added) point all few)
 
   pub placed_on : (points : List Point) (point : Point) → GoesOnFrom told m before points → IsFound m (opening_after told m (last_sums None points)) point → IsPlacedOn told m before points point
   placed_on points point w found =

@@ -6,6 +6,7 @@ use Rattle.mill_model.specs.declared.limits.Limits.{Limits}
 use Rattle.mill_model.specs.Mill.{Mill}
 use Rattle.mill_model.specs.Plans.{Plan}
 use Rattle.mill_model.specs.Limits.{AtMost, AreSmaller}
+use Rattle.mill_model.specs.Decisions.{Decision}
 use Rattle.mill_model.specs.Starts.{IsAsTold}
 use Rattle.mill_model.specs.Marks.{MarkedSteps}
 use Rattle.mill_model.specs.Fronts.{Point}
@@ -15,7 +16,7 @@ use Rattle.slab_relax.specs.declared.tally.Tally.{Tally}
 use Rattle.slab_tree.specs.Marking.{HasCoverUnlessBare}
 use Rattle.slab_tree.specs.Unfinished.{IsCutTree}
 use Rattle.slab_tree.proofs.Limits.{at_most_refl, at_most_trans, cover_greater}
-use Rattle.slab_tree.proofs.Tallies.{cause_later}
+use Rattle.slab_relax.proofs.Counting.{cause_earlier}
 use Rattle.slab_sweep.specs.Openings.{Telling, loss_below_plan, loss_told, count_after, opening_after}
 use Rattle.slab_sweep.specs.Questions.{opening_of}
 use Rattle.slab_sweep.specs.Made.{IsMade, IsFound, IsNothing, IsCut}
@@ -34,8 +35,8 @@ made_greater m a b limits s h made = record {
   falls = record { loss = at_most_trans limits.loss a.loss b.loss made.falls.loss h.loss; count = at_most_trans limits.count a.count b.count made.falls.count h.count };
 }
 
-cut_greater : (m : Mill) (a b : Limits) (limit bares : ℕ) (bare_end : Bool) (rest : List (Option Ask)) → AreSmaller a b → IsCutTree m a limit bares bare_end rest → IsCutTree m b limit bares bare_end rest
-cut_greater m a b limit bares bare_end rest h cut = record {
+cut_greater : (m : Mill) (a b : Limits) (limit bares : ℕ) (bare_end : Bool) (path : List Decision) (rest : List (Option Ask)) → AreSmaller a b → IsCutTree m a limit bares bare_end path rest → IsCutTree m b limit bares bare_end path rest
+cut_greater m a b limit bares bare_end path rest h cut = record {
   tree = cut.tree;
   list_is = cut.list_is;
   open_tree = cut.open_tree;
@@ -44,9 +45,8 @@ cut_greater m a b limit bares bare_end rest h cut = record {
   full = cut.full;
   covered = splits_weaker (λ mark _ ds. HasCoverUnlessBare m a mark ds) (λ mark _ ds. HasCoverUnlessBare m b mark ds) (λ mark ask ds covered bare. cover_greater m a b ds h (covered bare)) cut.tree [] cut.covered;
   bare_splits = cut.bare_splits;
-  path = cut.path;
   has_end = cut.has_end;
-  covered_end = λ covered. cover_greater m a b cut.path h (cut.covered_end covered);
+  covered_end = λ covered. cover_greater m a b path h (cut.covered_end covered);
 }
 
 module _ (told : Telling) (m : Mill) (before : Option Sums) (count : Option ℤ) (best : Option Plan) (is : count ≡ count_after before) (as_told : IsAsTold told m count best) where
@@ -69,7 +69,8 @@ module _ (told : Telling) (m : Mill) (before : Option Sums) (count : Option ℤ)
       let here : IsCut m (opening_of m (count_after before) best) limit bares old new rest = subst (λ (c : Option ℤ). IsCut m (opening_of m c best) limit bares old new rest) is cut in
       record {
         bare_end = here.bare_end;
-        cut = cut_greater m (opening_of m (count_after before) best) (opening_after told m before) limit bares here.bare_end rest greater here.cut;
-        cause = λ bare. cause_later first old new later (here.cause bare);
+        path = here.path;
+        cut = cut_greater m (opening_of m (count_after before) best) (opening_after told m before) limit bares here.bare_end here.path rest greater here.cut;
+        cause = λ bare. cause_earlier first old new later (here.cause bare);
         few = here.few;
       }

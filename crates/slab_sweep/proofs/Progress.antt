@@ -10,7 +10,7 @@ use Rattle.slab_relax.specs.Tallies.{AreNoLess, HaveCauses}
 use Rattle.slab_relax.specs.declared.tally.Tally.{Tally}
 use Rattle.slab_tree.specs.Counts.{Counts}
 use Rattle.slab_tree.specs.Marking.{bare_marks}
-use Rattle.slab_tree.proofs.Tallies.{no_less_refl, no_less_trans, causes_same, causes_trans}
+use Rattle.slab_relax.proofs.Counting.{no_less_same, no_less_trans, causes_same, causes_trans}
 use Rattle.slab_sweep.specs.declared.swept.Swept.{Swept}
 use Rattle.slab_sweep.specs.declared.swept.Swept.TheVariants.{Complete, NoPlan, Budget}
 use Rattle.slab_sweep.specs.Openings.{Telling, opening_after}
@@ -18,7 +18,7 @@ use Rattle.slab_sweep.specs.Made.{IsFound, IsNothing, IsCut, nodes_of, bares_of}
 use Rattle.slab_sweep.specs.Counting.{most_questions, OpensFew, OpensOneTree, CountsNodes, CountsBares}
 use Rattle.slab_sweep.specs.Questions.{AreCounted}
 use Rattle.slab_sweep.specs.Placing.{placed}
-use Rattle.slab_sweep.specs.Swept.{ended_with, IsSwept, IsAnswer, IsToldPlainly, added_to, made_nodes}
+use Rattle.slab_sweep.specs.Swept.{ended_with, AreWithin, HasTreesWithin, IsSwept, IsAnswer, IsToldPlainly, added_to, made_nodes}
 use Rattle.slab_sweep.specs.Progress.{IsUnderWay, HasRoomFor, StandsPlainly, questions_after, questions_left}
 use Rattle.slab_sweep.proofs.Heads.{few_last, few_new, found_falls, good_placed, last_placed}
 use Rattle.slab_sweep.proofs.Kept.{goes_on_at_first, none_before, placed_on, IsPlacedOn}
@@ -40,10 +40,11 @@ at_first told m head n t good =
       good = good;
       goes_on = goes_on_at_first told m head;
       nodes = inl (omega (arith, ap nodes_of none));
+      within = subst (λ (points : List Point). AreWithin n.limit points) (sym none) tt;
       bares = record { counted = inl (omega (arith, ap bares_of none)); causes = inl (omega (arith, ap bares_of none)) };
       room = room_at_first m (questions_left m head) n (few_at_first m head good (last_sums None head) refl);
-      causes = causes_same n.bare n.bare t t refl (no_less_refl t);
-      counters = no_less_refl t;
+      causes = causes_same n.bare n.bare t t refl (no_less_same t);
+      counters = no_less_same t;
       plainly = λ plain empty. subst (λ (points : List Point). StandsPlainly m plain.plan points n n) (sym empty) (omega arith);
     }
 
@@ -91,14 +92,15 @@ module _ {told : Telling} {m : Mill} {head points : List Point} {old now new : C
 
   -- ---- a plan was found
 
-  pub goes_on : (point : Point) → HaveCauses now.bare half new.bare is → IsFound m (opening_after told m (last_sums None points)) point → AreCounted (length point.steps.steps) (bare_marks point.steps.marks) now new half is
+  pub goes_on : (point : Point) → HaveCauses now.bare half new.bare is → IsFound m (opening_after told m (last_sums None points)) point → AreCounted (length point.steps.steps) (bare_marks point.steps.marks) now new half is → length point.steps.steps ≤ now.limit
       → ((t : IsToldPlainly told m) → head ≡ [] → StandsPlainly m t.plan (placed points point) old new) → IsUnderWay told m head (placed points point) old new was is
-  goes_on point causes found counted plainly =
+  goes_on point causes found counted few plainly =
       let on : IsPlacedOn told m head points point = placed_on told m head points point way.goes_on found in
       record {
         good = good_placed told m None points point way.good found (λ e. tt);
         goes_on = on.goes_on;
         nodes = more_nodes (length point.steps.steps) (nodes_of (added_to head (placed points point))) on.few_nodes counted.opened;
+        within = on.within old.limit way.within (omega (arith, few, way.room.limit));
         bares = more_bares (bare_marks point.steps.marks) (bares_of (added_to head (placed points point))) on.few_bares counted.marked;
         room = room_for way (questions_left m (placed points point)) opens (fewer_left told m points point found);
         causes = have_causes way new.bare causes later;
@@ -151,6 +153,14 @@ module _ {told : Telling} {m : Mill} {head points : List Point} {old now new : C
     (bares, record { head = way.good; goes_on = way.goes_on; cut = cut }, more_bares bares (bares_of (added_to head points) + bares) (omega arith) counted.marked),
     more_nodes (length rest) (nodes_of (added_to head points) + length rest) (omega arith) counted.opened,
   )
+
+-- its trees have no more nodes than the limit
+pub ended_within : {told : Telling} {m : Mill} {head points : List Point} {old now : Counts} {was is : Tally} → IsUnderWay told m head points old now was is → (steps : MarkedSteps) → length steps.steps ≤ now.limit → HasTreesWithin old.limit head (ended_with points steps)
+ended_within {head} {points} {old} {now} way steps few = by points way.within
+  where
+    by : (ps : List Point) → AreWithin old.limit (added_to head ps) → HasTreesWithin old.limit head (ended_with ps steps)
+    by [] all = omega (arith, few, way.room.limit)
+    by (p ∷ ps) all = (all, omega (arith, few, way.room.limit))
 
 -- what has ended isn't cut off
 pub ended_answers : (points : List Point) (steps : MarkedSteps) → IsAnswer (ended_with points steps)

@@ -74,14 +74,15 @@ module _ (old mid : Counts) (first last : Search) (none : first.nodes ≡ []) (z
       sooner (inl u) = inl (omega arith)
       sooner (inr u) = inr u
 
+  -- an unfinished tree has as many nodes as were opened for it
+  pub refused_few : (rest : List (Option Ask)) (m : Mill) (limit : ℕ) → IsRefused m limit last → rest ≡ outline_of last → length rest ≤ last.opened
+  refused_few rest m limit refused outline = omega (arith, refused.opened, ap length outline, length-append (map ask_of last.nodes) (replicate (last.opened - length last.nodes) None), length-map last.nodes ask_of, length-replicate {A = Option Ask} (last.opened - length last.nodes) None)
+
   pub refused_counted : (was is : Tally) (rest : List (Option Ask)) (m : Mill) (limit : ℕ) → IsRefused m limit last → rest ≡ outline_of last → HaveCauses (bare_count first.nodes) was (bare_count last.nodes) is → AreCounted (length rest) (bare_count last.nodes) old mid was is
   refused_counted was is rest m limit refused outline causes = record {
-    opened = elim nodes_counted [ inl h ↦ inl (omega (arith, few)) | inr h ↦ inr h ];
+    opened = elim nodes_counted [ inl h ↦ inl (omega (arith, refused_few rest m limit refused outline)) | inr h ↦ inr h ];
     marked = record { counted = bares_counted; causes = subst (λ (n : ℕ). HaveCauses n was (bare_count last.nodes) is) none_bare causes };
   }
-    where
-      few : length rest ≤ last.opened
-      few = omega (arith, refused.opened, ap length outline, length-append (map ask_of last.nodes) (replicate (last.opened - length last.nodes) None), length-map last.nodes ask_of, length-replicate {A = Option Ask} (last.opened - length last.nodes) None)
 
 -- ---- the answers
 
@@ -105,10 +106,11 @@ module _ (m : Mill) (count : Option ℤ) (best : Option Plan) (first last : Sear
   pub nothing_of : (s : MarkedSteps) → EndsNoPlan m first last → IsMade m (tree_opening last) (limits_of last) s → IsNothing m (opening_of m count best) s
   nothing_of s ends made = record { none = subst (λ (c : Option ℤ). HasNoPlan m c) counts ends.none; tree = made_for None s ends.loss made }
 
-  pub cut_of : (limit : ℕ) (rest : List (Option Ask)) (old new : Tally) → (ends : EndsBudget m limit last) → (HasBareEnd last → HasCause old new) → IsCutTree m (tree_opening last) limit (bare_count last.nodes) ends.tree.bare rest → IsCut m (opening_of m count best) limit (bare_count last.nodes) old new rest
+  pub cut_of : (limit : ℕ) (rest : List (Option Ask)) (old new : Tally) → (ends : EndsBudget m limit last) → (HasBareEnd last → HasCause old new) → IsCutTree m (tree_opening last) limit (bare_count last.nodes) ends.tree.bare last.path rest → IsCut m (opening_of m count best) limit (bare_count last.nodes) old new rest
   cut_of limit rest old new ends bare_end cut = record {
     bare_end = ends.tree.bare;
-    cut = subst (λ (o : Limits). IsCutTree m o limit (bare_count last.nodes) ends.tree.bare rest) opens cut;
+    path = last.path;
+    cut = subst (λ (o : Limits). IsCutTree m o limit (bare_count last.nodes) ends.tree.bare last.path rest) opens cut;
     cause = λ bare. bare_end (ends.tree.refused ∙ ap (λ (b : Bool). Refused b) bare);
     few = ends.below;
   }

@@ -6,6 +6,7 @@ use Rattle.mill_model.specs.declared.limits.Limits.{Limits}
 use Rattle.mill_model.specs.Mill.{Mill}
 use Rattle.mill_model.specs.Plans.{sums_of}
 use Rattle.mill_model.specs.Limits.{AreSmaller}
+use Rattle.mill_model.specs.Decisions.{Decision}
 use Rattle.mill_model.specs.Trees.{most_nodes}
 use Rattle.mill_model.specs.Marks.{MarkedSteps}
 use Rattle.mill_model.specs.Fronts.{Point, below, last_sums}
@@ -40,7 +41,8 @@ pub record IsNothing (m : Mill) (opening : Limits) (s : MarkedSteps) : Type 0 wh
 -- only where a counter rose, and the limit is below the most nodes that a tree has.
 pub record IsCut (m : Mill) (opening : Limits) (limit bares : ℕ) (old new : Tally) (rest : List (Option Ask)) : Type 0 where
   pub bare_end : Bool
-  pub cut : IsCutTree m opening limit bares bare_end rest
+  pub path : List Decision
+  pub cut : IsCutTree m opening limit bares bare_end path rest
   pub cause : bare_end ≡ true → HasCause old new
   pub few : limit + 2 ≤ most_nodes m
 

@@ -11,7 +11,7 @@ use Rattle.slab_tree.specs.Counts.{Counts}
 use Rattle.slab_sweep.specs.Openings.{Telling}
 use Rattle.slab_sweep.specs.Made.{GoesOnFrom, nodes_of, bares_of}
 use Rattle.slab_sweep.specs.Counting.{most_questions, CountsNodes, CountsBares}
-use Rattle.slab_sweep.specs.Swept.{IsToldPlainly, added_to}
+use Rattle.slab_sweep.specs.Swept.{IsToldPlainly, AreWithin, added_to}
 
 -- how many questions are left at most: one for each count below the last point's, and for -1
 abbrev pub questions_after : Mill → Option Sums → ℕ
@@ -40,6 +40,7 @@ pub record IsUnderWay (told : Telling) (m : Mill) (head points : List Point) (ol
   pub good : IsGoodHead m points
   pub goes_on : GoesOnFrom told m head points
   pub nodes : CountsNodes (nodes_of (added_to head points)) old now
+  pub within : AreWithin old.limit (added_to head points)
   pub bares : CountsBares (bares_of (added_to head points)) old now was is
   pub room : HasRoomFor m (questions_left m points) old now
   pub causes : HaveCauses old.bare was now.bare is

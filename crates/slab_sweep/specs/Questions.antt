@@ -32,6 +32,12 @@ IsAnswered m count best old new was is (Nothing s) =
 IsAnswered m count best old new was is (Cut rest) =
     (bares : ℕ) × IsCut m (opening_of m count best) old.limit bares was is rest × AreCounted (length rest) bares old new was is
 
+-- its tree has no more nodes than the limit
+abbrev pub HasTreeWithin : ℕ → Answer → Type 0
+HasTreeWithin limit (Found point) = length point.steps.steps ≤ limit
+HasTreeWithin limit (Nothing s) = length s.steps ≤ limit
+HasTreeWithin limit (Cut rest) = length rest ≤ limit
+
 -- it isn't cut off
 abbrev pub IsClosed : Answer → Type 0
 IsClosed (Found point) = Unit {0}

@@ -50,6 +50,17 @@ made_bares before (Complete front) = bares_of (added_to before front.points) + b
 made_bares before (NoPlan last) = bare_marks last.marks
 made_bares before (Budget points rest) = bares_of (added_to before points)
 
+-- no tree of these points has more nodes than the limit
+abbrev pub AreWithin : ℕ → List Point → Type 0
+AreWithin limit [] = Unit {0}
+AreWithin limit (point ∷ points) = (length point.steps.steps ≤ limit) × AreWithin limit points
+
+-- no tree that the sweep made has more nodes than the limit
+abbrev pub HasTreesWithin : ℕ → List Point → Swept → Type 0
+HasTreesWithin limit before (Complete front) = AreWithin limit (added_to before front.points) × (length front.last.steps ≤ limit)
+HasTreesWithin limit before (NoPlan last) = length last.steps ≤ limit
+HasTreesWithin limit before (Budget points rest) = AreWithin limit (added_to before points) × (length rest ≤ limit)
+
 -- what a sweep answers for a head, and what was counted
 abbrev pub IsSwept : Telling → Mill → List Point → Counts → Counts → Tally → Tally → Swept → Type 0
 IsSwept told m before old new was is (Complete front) =

@@ -12,7 +12,7 @@ ghost use Rattle.slab_tree.specs.Searches.{IsFinished, bare_count, limits_of, op
 ghost use Rattle.slab_tree.specs.Tightening.{MayCountBare};
 ghost use Rattle.slab_sweep.specs.Counting.{OpensOneTree, AreNoMoreBare};
 ghost use Rattle.slab_sweep.specs.Made.{IsMade};
-ghost use Rattle.slab_sweep.specs.Questions.{IsAnswered, IsAnsweredAtOnce, opening_of};
+ghost use Rattle.slab_sweep.specs.Questions.{HasTreeWithin, IsAnswered, IsAnsweredAtOnce, opening_of};
 
 use loss_table::LossTable;
 use mill_model::{Mill, OpenTree, Plan, Proved, Steps};
@@ -49,6 +49,7 @@ pub(crate) fn ask(
     requires pool { pool.old.mill ≡ mill.now }
     ensures answer { IfOk result
         (IsAnswered mill.now count best nodes.old nodes.new tally.old tally.new) }
+    ensures within { IfOk result (HasTreeWithin nodes.old.limit) }
     ensures plain { IsPlainlyRefuted mill.now (opening_of mill.now count best)
         → IfOk result (IsAnsweredAtOnce nodes.old nodes.new) }
     ensures opens { OpensOneTree mill.now nodes.old nodes.new }

@@ -4,7 +4,7 @@ ghost use Rattle.std.specs.Prelude.{◌≡◌, [], IfOk};
 ghost use Rattle.mill_model.specs.Fronts.{IsGoodHead};
 ghost use Rattle.slab_relax.specs.Tallies.{AreNoLess, HaveCauses};
 ghost use Rattle.slab_sweep.specs.Counting.{OpensFew, CountsNodes};
-ghost use Rattle.slab_sweep.specs.Swept.{IsSwept, IsSweptAtOnce, IsToldPlainly, made_nodes, ended_with};
+ghost use Rattle.slab_sweep.specs.Swept.{HasTreesWithin, IsSwept, IsSweptAtOnce, IsToldPlainly, made_nodes, ended_with};
 
 use crate::points::{count_limit, place};
 use crate::question::{Answer, ask};
@@ -35,6 +35,7 @@ pub fn sweep<T: Starter>(
     ensures swept { IfOk result
         (IsSwept (T.told starter.old) mill.now head nodes.old nodes.new tally.old tally.new) }
     ensures made { IfOk result (λ s. CountsNodes (made_nodes head s) nodes.old nodes.new) }
+    ensures within { IfOk result (HasTreesWithin nodes.old.limit head) }
 
     // A plan without loss that is told, with a count below which all is plainly refuted, ends it at the second node.
     ensures plain { IsToldPlainly (T.told starter.old) mill.now → head ≡ []

@@ -22,7 +22,7 @@ use Rattle.slab_tree.specs.Stepping.{IsClosed, IsBranched}
 use Rattle.slab_tree.specs.Tightening.{covered_count, MayCountBare}
 use Rattle.slab_tree.specs.Unfinished.{marks_in}
 use Rattle.slab_tree.proofs.Gains.{closed_bares, bare_branched}
-use Rattle.slab_tree.proofs.Tallies.{causes_same, causes_more}
+use Rattle.slab_relax.proofs.Counting.{causes_same, causes_more}
 
 -- a split is bare or covered
 one_or_other : (b : Bool) → cond b 1 0 + cond (not b) 1 0 ≡ 1

@@ -13,7 +13,7 @@ use Rattle.slab_node.specs.Turns.{IsTurn, IsRefuted, IfSpread}
 use Rattle.slab_relax.specs.PoolCovers.{IsPoolCover}
 use Rattle.mill_model.specs.Columns.{Column}
 use Rattle.slab_tree.proofs.Limits.{box_greater, cover_greater, pool_cover_greater}
-use Rattle.slab_tree.proofs.Tallies.{cause_later}
+use Rattle.slab_relax.proofs.Counting.{cause_earlier}
 
 abbrev pub IsntRefuted : Turned → Type 0
 IsntRefuted t = (p : Prices) → t ≡ Refuted p → ⊥
@@ -23,13 +23,7 @@ pub turn_greater : (m : Mill) (smaller limits : Limits) (path : List Decision) (
 turn_greater m smaller limits path a b c (Refuted p) fall h isnt w = absurd (isnt p refl)
 turn_greater m smaller limits path a b c (InBox p) fall h isnt w = box_greater m smaller limits path p fall w
 turn_greater m smaller limits path a b c (Spread cover ask) fall h isnt w = (cover_greater m smaller limits path fall w.0, w.1)
-turn_greater m smaller limits path a b c (Bare ask) fall h isnt w = (cause_later a b c h w.0, w.1)
-
-pub turn_later : (m : Mill) (limits : Limits) (path : List Decision) (a b c : Tally) (t : Turned) → AreNoLess a b → IsTurn m limits path b c t → IsTurn m limits path a c t
-turn_later m limits path a b c (Refuted p) h w = w
-turn_later m limits path a b c (InBox p) h w = w
-turn_later m limits path a b c (Spread cover ask) h w = w
-turn_later m limits path a b c (Bare ask) h w = (cause_later a b c h w.0, w.1)
+turn_greater m smaller limits path a b c (Bare ask) fall h isnt w = (cause_earlier a b c h w.0, w.1)
 
 pub refuted_or_not : (t : Turned) → IsntRefuted t → IsRefuted t → ⊥
 refuted_or_not (Refuted p) isnt w = isnt p refl

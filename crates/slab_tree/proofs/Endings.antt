@@ -174,7 +174,7 @@ covered_splits : {E : Type 0} (m : Mill) (limits : Limits) (t : Tree Mark E) (pa
 covered_splits m limits (End e) path h = tt
 covered_splits m limits (Split mark ask left right) path h = (holds_cover m limits mark path h.0.marked, covered_splits m limits left ((ask, true) ∷ path) h.1, covered_splits m limits right ((ask, false) ∷ path) h.2)
 
-pub cut_tree : (m : Mill) (limit : ℕ) (t : Search) (r : IsRefused m limit t) → IsCutTree m (opening_of t) limit (bare_count t.nodes) r.bare (outline_of t)
+pub cut_tree : (m : Mill) (limit : ℕ) (t : Search) (r : IsRefused m limit t) → IsCutTree m (opening_of t) limit (bare_count t.nodes) r.bare t.path (outline_of t)
 cut_tree m limit t r =
     let rest : t.opened - length t.nodes ≡ suc (waiting t.path) = omega (arith, r.opened) in
     let ends : outline_of t ≡ map ask_of t.nodes ++ (None ∷ replicate (waiting t.path) None) = ap (λ (n : ℕ). map ask_of t.nodes ++ replicate n None) rest in
@@ -190,7 +190,6 @@ cut_tree m limit t r =
       full = omega (arith, r.full);
       covered = covered_splits m (opening_of t) o.tree [] o.unfinished.splits;
       bare_splits = ap bare_marks (o.marks_are ∙ append-nil (marks_in t.nodes));
-      path = t.path;
       has_end = o.ends t.path refl;
       covered_end = r.covered;
     }

@@ -19,7 +19,7 @@ use Rattle.slab_tree.specs.Unfinished.{marks_in}
 use Rattle.slab_tree.specs.Searches.{Search, bare_count}
 use Rattle.slab_tree.specs.Stepping.{after_leaf, IsClosed, IsSplitUnder}
 use Rattle.slab_tree.proofs.Counts.{raised_none}
-use Rattle.slab_tree.proofs.Tallies.{causes_same, causes_more}
+use Rattle.slab_relax.proofs.Counting.{causes_same, causes_more}
 
 -- ---- bare splits
 

@@ -2,7 +2,6 @@ pub mod Counts
 pub mod Standing
 pub mod Limits
 pub mod Sums
-pub mod Tallies
 pub mod BoundedTurns
 pub mod Moves
 pub mod Gains
@@ -14,5 +13,4 @@ pub mod BareMarks
 pub mod ShownCovers
 pub mod Remainders
 pub mod Rewriting
-pub mod Numbering
 pub mod Finds

@@ -33,9 +33,6 @@ at_most_trans a None (Some c) h k = absurd k
 at_most_trans None (Some b) (Some c) h k = absurd h
 at_most_trans (Some a) (Some b) (Some c) h k = omega (arith, ints)
 
-pub smaller_refl : (a : Limits) → AreSmaller a a
-smaller_refl a = record { loss = at_most_refl a.loss; count = at_most_refl a.count }
-
 pub within_greater : (x : Sums) (a b : Limits) → AreSmaller a b → IsWithin x a → IsWithin x b
 within_greater x a b h w = record { loss = at_most_trans (Some (pos x.loss)) a.loss b.loss w.loss h.loss; count = at_most_trans (Some (pos x.count)) a.count b.count w.count h.count }
 

@@ -24,7 +24,7 @@ use Rattle.slab_tree.specs.Stepping.{after_leaf, IsClosed, IsBranched, fall_room
 use Rattle.slab_tree.proofs.Limits.{at_most_refl, at_most_trans, holds_greater, holds_cover}
 use Rattle.slab_tree.proofs.Standing.{closes_leaf, splits_at, waiting_next, none_waits, stands_smaller}
 
-same_later : (m : Mill) (old new : Search) → new.count ≡ old.count → new.opening ≡ old.opening → new.loss ≡ old.loss → new.best ≡ old.best → IsLater m old new
+pub same_later : (m : Mill) (old new : Search) → new.count ≡ old.count → new.opening ≡ old.opening → new.loss ≡ old.loss → new.best ≡ old.best → IsLater m old new
 same_later m old new count opening loss best = record { count = count; opening = opening; loss = subst (λ a. AtMost a old.loss) (sym loss) (at_most_refl old.loss); best = inl best }
 
 pub later_refl : (m : Mill) (t : Search) → IsLater m t t

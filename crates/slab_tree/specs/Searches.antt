@@ -15,6 +15,7 @@ use Rattle.slab_tree.specs.declared.tree.Phase.{Phase}
 use Rattle.slab_tree.specs.declared.tree.Phase.TheVariants.{New, Running, Done, Refused}
 use Rattle.slab_tree.specs.declared.tree.Ended.{Ended}
 use Rattle.slab_tree.specs.declared.tree.Ended.TheVariants.{Least, NoPlan, Budget}
+use Rattle.slab_tree.specs.Counts.{Counts, AreRaised}
 use Rattle.slab_tree.specs.Marking.{HoldsCover, bare_marks}
 use Rattle.slab_tree.specs.Standing.{Stands, IsWhole, waiting}
 use Rattle.slab_tree.specs.Unfinished.{marks_in, ask_of}
@@ -156,6 +157,10 @@ IsAnswer Budget = ⊥
 pub record IsSameQuestion (old new : Search) : Type 0 where
   pub count : new.count ≡ old.count
   pub opening : new.opening ≡ old.opening
+
+-- the counts rose by the nodes and the bare splits that the tree gained
+abbrev pub AreRaisedBy : Counts → Counts → Search → Search → Type 0
+AreRaisedBy n k old new = AreRaised n k old.opened new.opened (bare_count old.nodes) (bare_count new.nodes)
 
 -- ---- the unfinished tree
 

@@ -37,8 +37,9 @@ marks_in (Closed p ∷ ns) = marks_in ns
 marks_in (Branched ask mark ∷ ns) = mark ∷ marks_in ns
 
 -- The outline of a search that the node limit cut off: as many nodes as the limit or one fewer, each split with a cover within the
--- limits unless it is bare, and so many of them bare; one end with a cover too, unless it is bare.
-pub record IsCutTree (m : Mill) (limits : Limits) (limit bares : ℕ) (bare_end : Bool) (list : List (Option Ask)) : Type 0 where
+-- limits unless it is bare, and so many of them bare; the end at the path, whose split was refused, with a cover too, unless it is
+-- bare.
+pub record IsCutTree (m : Mill) (limits : Limits) (limit bares : ℕ) (bare_end : Bool) (path : List Decision) (list : List (Option Ask)) : Type 0 where
   pub tree : Outlined
   pub list_is : list ≡ outline tree
   pub open_tree : IsOpenTree m [] list
@@ -47,7 +48,5 @@ pub record IsCutTree (m : Mill) (limits : Limits) (limit bares : ℕ) (bare_end 
   pub full : limit < tree_nodes tree + 2
   pub covered : EverySplit (λ mark _ decisions. HasCoverUnlessBare m limits mark decisions) tree []
   pub bare_splits : bare_marks (marks_of tree) ≡ bares
-  -- the end whose split was refused
-  pub path : List Decision
   pub has_end : HasEnd tree [] path
   pub covered_end : bare_end ≡ false → HasCover m limits path

@@ -17,7 +17,8 @@ use std::marker::Model;
 // The number of dives at the first split.
 const FIRST_DIVES: u32 = 4;
 
-// So many shares of covers are kept with the splits of a tree, about 60 bytes each.
+// So many shares of covers are kept with the splits that one run makes, about 60 bytes each. A later cover is found anew where the
+// tree is tightened.
 const MOST_SHARES: usize = 4_000_000;
 
 // The guide of a run.
@@ -141,7 +142,7 @@ impl Guide {
         )
     }
 
-    // Whether a cover with so many columns may be kept, beside those that were.
+    // Whether a cover of so many columns may be kept with its split, beside those that were.
     pub(crate) fn keeps(&mut self, columns: usize) -> bool
         ensures { self.new ≡ self.old }
     {

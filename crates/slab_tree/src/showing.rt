@@ -50,11 +50,12 @@ pub(crate) fn mark_of(
     )
 }
 
-// The same, or the plain mark where the cover can't be shown.
+// The same, or the plain mark where the cover can't be shown or isn't to be kept.
 pub(crate) fn shown_or_plain(
     alloc: Global,
     pool: &Pool,
     cover: &Cover,
+    keeps: bool,
     tally: &mut Tally,
 ) -> Result<Mark, AllocError>
     requires { AreThere pool.now.columns cover.now }
@@ -62,6 +63,9 @@ pub(crate) fn shown_or_plain(
     ensures covered { IfOk result (λ mark. is_bare mark ≡ false) }
     ensures counters { AreNoLess tally.old tally.new }
 {
+    if !keeps {
+        return Ok(Mark::Plain);
+    }
     match mark_of(alloc, pool, cover, tally)? {
         Mark::Spread(shown) => Ok(Mark::Spread(shown)),
         Mark::Bare | Mark::Plain => Ok(Mark::Plain),

@@ -1,9 +1,10 @@
 // A run, by the status with which the program ends.
-ghost use Rattle.std.specs.Prelude.{◌≡◌, ◌≢◌, ◌⊎◌, ◌↔◌, ◌≤◌, IsTrue, map};
+ghost use Rattle.std.specs.Prelude.{◌≡◌, ◌≢◌, ◌⊎◌, ◌↔◌, ◌<◌, ◌≤◌, IsTrue, map};
 ghost use Rattle.std.specs.Process.{exit_status};
 ghost use Rattle.std.specs.String.{string_bytes};
-ghost use Rattle.slab_counter.specs.Counter.{Rose};
+ghost use Rattle.slab_counter.specs.Counter.{Rose, last_count};
 ghost use Rattle.slab_desk.specs.Desk.{Steps};
+ghost use Rattle.slab_relax.specs.Tallies.{AreNoLess};
 ghost use Rattle.slab_front.specs.Words.{job_of};
 ghost use Rattle.slab_front.specs.Outcomes.{Ran};
 ghost use Rattle.slab_front.specs.Owed.{Owes, MayEnd, LeavesUnread};
@@ -30,6 +31,8 @@ pub(crate) fn ended<D: Desk>(
     ensures later { D.faults desk.old ≤ D.faults desk.new }
     ensures stopped { (exit_status result ≡ 5) ↔ IsTrue (D.stopped desk.new) }
     ensures kept { exit_status result ≢ 5 → D.faults desk.new ≡ D.faults desk.old }
+    ensures rose { D.faults desk.old < last_count → ((exit_status result ≡ 5) ↔ (D.faults desk.old < D.faults desk.new)) }
+    ensures counters { AreNoLess tally.old tally.new }
 {
     ExitCode::from(run(alloc, words, desk, tally))
 }

@@ -49,7 +49,7 @@ impl Tree {
     pub fn open_tree(self, alloc: Global) -> Result<OpenTree, AllocError>
         requires { length self.nodes ≤ self.opened }
         ensures outline { IfOk result (λ list. list ≡ outline_of self) }
-        ensures cut { IfOk result (λ list. (m : Mill) (limit : ℕ) (refused : IsRefused m limit self) → IsCutTree m (opening_of self) limit (bare_count self.nodes) refused.bare list) }
+        ensures cut { IfOk result (λ list. (m : Mill) (limit : ℕ) (refused : IsRefused m limit self) → IsCutTree m (opening_of self) limit (bare_count self.nodes) refused.bare self.path list) }
     {
         let list = self.outline(alloc)?;
         Ok(OpenTree::new(list))

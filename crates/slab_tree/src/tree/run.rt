@@ -9,12 +9,12 @@ ghost use Rattle.slab_relax.specs.PoolCovers.{IsPoolCover};
 ghost use Rattle.slab_relax.specs.Tallies.{AreNoLess, HasCause, HaveCauses};
 ghost use Rattle.slab_node.specs.Turns.{IsOpenAsk, IsUndecided};
 ghost use Rattle.slab_tree.specs.Asking.{AreThere, extent_of};
-ghost use Rattle.slab_tree.specs.Counts.{AreRaised, IsCountedSplit};
+ghost use Rattle.slab_tree.specs.Counts.{IsCountedSplit};
 ghost use Rattle.slab_tree.specs.FoundPlans.{IsFoundPlan};
 ghost use Rattle.slab_tree.specs.Marking.{is_bare};
 ghost use Rattle.slab_tree.specs.Standing.{IsOpenPath};
-ghost use Rattle.slab_tree.specs.Searches.{HasBareEnd, IsReady, IsRunning, IsEnded, IsAnswer, IsSameQuestion, limits_of, bare_count};
-ghost use Rattle.slab_tree.specs.Stepping.{IsClosed, IsClosedAtOnce, IsSplitUnder, IsStepped, IsWorkplace};
+ghost use Rattle.slab_tree.specs.Searches.{HasBareEnd, IsReady, IsRunning, IsEnded, IsAnswer, IsSameQuestion, AreRaisedBy, limits_of, bare_count};
+ghost use Rattle.slab_tree.specs.Stepping.{IsClosed, IsClosedAtOnce, IsLater, IsSplitUnder, IsStepped, IsWorkplace};
 
 use super::{Ended, Tree};
 use crate::Nodes;
@@ -53,6 +53,7 @@ impl Tree {
         // How it ends.
         ensures ended { IfOk result (IsEnded mill.now nodes.old.limit self.old self.new) }
         ensures memory { OnErr result (IsRunning mill.now self.new) }
+        ensures later { OnErr result (IsLater mill.now self.old self.new) }
         ensures question { IsSameQuestion self.old self.new }
 
         // Limits that are plainly refuted at the start take one node.
@@ -62,7 +63,7 @@ impl Tree {
         // What the tree gained, and what that has to do with the counts.
         ensures room { self.new.opened ≤ nodes.old.limit }
         ensures few { self.new.opened < most_nodes mill.now }
-        ensures counts { AreRaised nodes.old nodes.new self.old.opened self.new.opened (bare_count self.old.nodes) (bare_count self.new.nodes) }
+        ensures counts { AreRaisedBy nodes.old nodes.new self.old self.new }
         ensures counters { AreNoLess tally.old tally.new }
         ensures causes { HaveCauses (bare_count self.old.nodes) tally.old (bare_count self.new.nodes) tally.new }
         ensures bare_end { HasBareEnd self.new → HasCause tally.old tally.new }
@@ -90,12 +91,13 @@ impl Tree {
         requires pool { pool.old.mill ≡ mill.now }
         ensures ended { IfOk result (IsEnded mill.now nodes.old.limit self.old self.new) }
         ensures memory { OnErr result (IsRunning mill.now self.new) }
+        ensures later { OnErr result (IsLater mill.now self.old self.new) }
         ensures question { IsSameQuestion self.old self.new }
         ensures plain { IsPlainlyRefuted mill.now (limits_of self.old) → self.old.nodes ≡ [] → IfOk result IsAnswer }
         ensures one { IsPlainlyRefuted mill.now (limits_of self.old) → self.old.nodes ≡ [] → IfOk result (λ _. self.new.opened ≡ 1) }
         ensures room { self.new.opened ≤ nodes.old.limit }
         ensures few { self.new.opened < most_nodes mill.now }
-        ensures counts { AreRaised nodes.old nodes.new self.old.opened self.new.opened (bare_count self.old.nodes) (bare_count self.new.nodes) }
+        ensures counts { AreRaisedBy nodes.old nodes.new self.old self.new }
         ensures counters { AreNoLess tally.old tally.new }
         ensures causes { HaveCauses (bare_count self.old.nodes) tally.old (bare_count self.new.nodes) tally.new }
         ensures bare_end { HasBareEnd self.new → HasCause tally.old tally.new }
@@ -148,7 +150,7 @@ impl Tree {
         ensures counters { AreNoLess tally.old tally.new }
         ensures causes { HaveCauses (bare_count self.old.nodes) tally.old (bare_count self.new.nodes) tally.new }
         ensures bare_end { HasBareEnd self.new → HasCause tally.old tally.new }
-        ensures counts { AreRaised nodes.old nodes.new self.old.opened self.new.opened (bare_count self.old.nodes) (bare_count self.new.nodes) }
+        ensures counts { AreRaisedBy nodes.old nodes.new self.old self.new }
     {
         let _counted = nodes.opened();
         let limits = self.limits();
@@ -215,11 +217,12 @@ impl Tree {
         ensures counters { AreNoLess tally.old tally.new }
         ensures bares { bare_count self.new.nodes ≡ bare_count self.old.nodes }
         ensures end { HasBareEnd self.new → ⊥ }
-        ensures counts { AreRaised nodes.old nodes.new self.old.opened self.new.opened (bare_count self.old.nodes) (bare_count self.new.nodes) }
+        ensures counts { AreRaisedBy nodes.old nodes.new self.old self.new }
     {
         let _counted = nodes.opened();
         let ask = guide.choose(pool, cover, decisions, first)?;
-        let mark = shown_or_plain(alloc, pool, cover, tally)?;
+        let keeps = guide.keeps(cover.list().len());
+        let mark = shown_or_plain(alloc, pool, cover, keeps, tally)?;
         match self.seek(alloc, mill, table, cover, decisions, guide, pool, tally)? {
             Some(plan) => {
                 self.lower(mill, plan);

@@ -10,10 +10,15 @@ bounds-covered-place c = omega (arith, (rises_at 0 (length c.args.covered.now) c
 
 pub returns-then-sum-most-clause-fits : goal.returns-then-sum-most-clause-fits
 returns-then-sum-most-clause-fits c =
-    let at = rises_at 0 (length c.args.covered.now) c.args.orders.now c.loop-order.order-index c.requires.rise c.loop-order-test.true in
-    (λ f. absurd (false≢true f), λ fits. absurd (omega (arith, c.if-sum-most.true,
-    at_index c.args.covered.now c.loop-order.covered c.args.orders.now c.args.times c.loop-order.order-index c.loop-order.invariant.added c.requires.rise c.loop-order-test.true c.from-place.result c.from-place.ensures,
-    fits c.from-place.result (subst (λ o. has c.args.orders.now o ≡ true) (sym c.from-place.ensures) (still_there c.args.orders.now c.loop-order.order-index c.loop-order-test.true)))))
+    let at = rises_at 0 (length c.args.covered.now) c.args.orders.now c.loop-order.order-index c.requires.rise c.loop-order-test.true in (
+      λ f. absurd (false≢true f),
+      λ fits. absurd (omega (
+        arith,
+        c.if-sum-most.true,
+        at_index c.args.covered.now c.loop-order.covered c.args.orders.now c.args.times c.loop-order.order-index c.loop-order.invariant.added c.requires.rise c.loop-order-test.true c.from-place.result c.from-place.ensures,
+        fits c.from-place.result (subst (λ o. has c.args.orders.now o ≡ true) (sym c.from-place.ensures) (still_there c.args.orders.now c.loop-order.order-index c.loop-order-test.true)),
+      )),
+    )
 
 pub bounds-covered-place-in-loop-order : goal.bounds-covered-place-in-loop-order
 bounds-covered-place-in-loop-order c = omega (arith, (rises_at 0 (length c.args.covered.now) c.args.orders.now c.loop-order.order-index c.requires.rise c.loop-order-test.true).1, c.from-place.ensures)

@@ -1,6 +1,6 @@
 use Rattle.std.proofs.Common.{ℤ, ◌^◌, ◌≤◌, subst, sym}
 use Rattle.std.specs.Prelude.{unsigned_abs}
-use Rattle.price_check.proofs.Sums.{multiple_back, multiple_bound}
+use Rattle.pricing_laws.proofs.Numbers.{multiple_back, multiple_bound}
 use Rattle.price_check.proofs.gains.with_multiple.Goals as goal
 
 pub returns-clause-value : goal.returns-clause-value

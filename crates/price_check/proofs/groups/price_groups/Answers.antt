@@ -4,7 +4,7 @@ use Rattle.std.specs.Int.{w128}
 use Rattle.std.proofs.lemmas.Int.{ints}
 use Rattle.pricing_laws.proofs.Groups.{AreTotals}
 use Rattle.pricing_laws.specs.Gains.{gain_of}
-use Rattle.price_check.proofs.Sums.{add_back}
+use Rattle.pricing_laws.proofs.Numbers.{entry_back}
 use Rattle.pricing_laws.proofs.Groupings.{small_more, priced_more, gains_done}
 use Rattle.price_check.proofs.groups.price_groups.Goals as goal
 
@@ -17,7 +17,7 @@ pub loop-order-preserved : goal.loop-order-preserved
 loop-order-preserved c =
     let small : unsigned_abs (get_or c.loop-order.gains c.from.result (pos 0)) ≤ 2 ^ 84 = omega (arith, c.loop-order.invariant.small c.from.result, c.loop-order-test.true, c.requires.few) in
     let inside : c.from.result < length c.loop-order.gains = omega (arith, c.from.ensures, c.requires.before c.loop-order.order c.loop-order-test.true, c.loop-order-test.true, c.loop-order.invariant.totals.size) in
-    let back : to_z w128 (of_z w128 (to_z w128 (of_z w128 (get_or c.loop-order.gains c.from.result (pos 0))) +ℤ to_z w128 (of_z w128 c.gain_of.result))) ≡ get_or c.loop-order.gains c.from.result (pos 0) +ℤ c.gain_of.result = add_back (get_or c.loop-order.gains c.from.result (pos 0)) c.gain_of.result (omega (arith, small)) (omega (arith, c.gain_of.ensures.small)) in
+    let back : to_z w128 (of_z w128 (to_z w128 (of_z w128 (get_or c.loop-order.gains c.from.result (pos 0))) +ℤ to_z w128 (of_z w128 c.gain_of.result))) ≡ get_or c.loop-order.gains c.from.result (pos 0) +ℤ c.gain_of.result = entry_back (get_or c.loop-order.gains c.from.result (pos 0)) c.gain_of.result small c.gain_of.ensures.small in
     record {
       totals = subst (λ (z : ℤ). AreTotals (gain_of c.args.mill.now c.args.quote.now) c.args.heads.now (c.loop-order.order + 1) (set c.loop-order.gains c.from.result z)) (sym back)
           (priced_more c.args.mill.now c.args.quote.now c.args.heads.now c.loop-order.gains c.loop-order.order c.from.result c.gain_of.result c.requires.before c.loop-order-test.true c.from.ensures c.gain_of.ensures.value c.loop-order.invariant.totals);

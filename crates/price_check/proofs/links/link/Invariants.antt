@@ -1,5 +1,5 @@
 use Rattle.std.proofs.Common.{◌≤◌, length, slice_index}
-use Rattle.price_check.specs.Chains.{IsChainedFrom}
+use Rattle.pricing_laws.specs.Chains.{IsChainedFrom}
 use Rattle.price_check.proofs.links.link.Given as goal
 
 abbrev pub invariant-loop-at : goal.invariant-loop-at

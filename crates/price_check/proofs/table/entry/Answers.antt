@@ -3,11 +3,8 @@ use Rattle.std.specs.Prelude.{unsigned_abs}
 use Rattle.std.specs.Int.{w128}
 use Rattle.std.proofs.lemmas.Int.{ints}
 use Rattle.pricing_laws.proofs.Numbers.{max_small}
+use Rattle.pricing_laws.proofs.Products.{entry_small}
 use Rattle.price_check.proofs.table.entry.Goals as goal
-
--- an entry of a table is small
-entry_small : (table : List ℤ) (k : ℕ) → ((k : ℕ) → k < length table → unsigned_abs (get_or table k (pos 0)) ≤ 2 ^ 100 + k * 2 ^ 84) → length table ≤ 2 ^ 24 → k < length table → unsigned_abs (get_or table k (pos 0)) ≤ 2 ^ 109
-entry_small table k small narrow h = omega (arith, small k h)
 
 pub returns-clause-with : goal.returns-clause-with
 returns-clause-with c inside =

@@ -1,5 +1,5 @@
 use Rattle.std.proofs.Common.{◌≤◌, length, slice_index}
-use Rattle.slab_price.specs.Chains.{IsChainedFrom}
+use Rattle.pricing_laws.specs.Chains.{IsChainedFrom}
 use Rattle.slab_price.proofs.chains.link.Given as goal
 
 abbrev pub invariant-loop-at : goal.invariant-loop-at

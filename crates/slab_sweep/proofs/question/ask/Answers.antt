@@ -1,4 +1,4 @@
-use Rattle.std.proofs.Common.{◌≡◌, sym, subst, length}
+use Rattle.std.proofs.Common.{◌≡◌, ◌≤◌, sym, subst, length, arith}
 use Rattle.mill_model.specs.Fronts.{Point}
 use Rattle.slab_tree.specs.declared.tree.Ended.{Ended}
 use Rattle.slab_tree.specs.Marking.{bare_marks}
@@ -6,7 +6,7 @@ use Rattle.slab_tree.specs.Searches.{EndsLeast, EndsNoPlan, EndsBudget, IsEnded,
 use Rattle.slab_tree.proofs.BareMarks.{may_count}
 use Rattle.slab_sweep.specs.Made.{IsFound}
 use Rattle.slab_sweep.specs.Questions.{AreCounted, opening_of}
-use Rattle.slab_sweep.proofs.Questions.{opens_with, finished_counted, refused_counted, found_of, keeps_best, nothing_of, cut_of}
+use Rattle.slab_sweep.proofs.Questions.{opens_with, finished_counted, refused_counted, refused_few, found_of, keeps_best, nothing_of, cut_of}
 use Rattle.slab_sweep.proofs.question.ask.Goals as goal
 
 pub tightened-requires-clause-room : goal.tightened-requires-clause-room
@@ -47,6 +47,25 @@ returns-in_ok-steps-in-NoPlan-clause-answer c =
       nothing_of m c.args.count c.args.best first last c.in_ok-tree.ensures.count c.in_ok-tree.ensures.best c.run.ensures.question opens c.in_ok-steps-in-NoPlan.steps ends c.in_ok-steps-in-NoPlan.ensures.made,
       finished_counted c.args.nodes.now c.run.new.nodes first last c.in_ok-tree.ensures.tree.no_nodes c.in_ok-tree.ensures.tree.none_opened c.run.ensures.counts c.tightened-in-NoPlan.new.nodes c.args.tally.now c.run.new.tally c.tightened-in-NoPlan.new.tally c.in_ok-steps-in-NoPlan.steps m ends.tree c.in_ok-steps-in-NoPlan.ensures.fewer c.tightened-in-NoPlan.ensures.opened c.tightened-in-NoPlan.ensures.rises c.in_ok-steps-in-NoPlan.ensures.counted c.run.ensures.counters c.in_ok-steps-in-NoPlan.ensures.causes,
     )
+
+pub returns-in_ok-steps-in-Least-clause-within : goal.returns-in_ok-steps-in-Least-clause-within
+returns-in_ok-steps-in-Least-clause-within c =
+    let ends : EndsLeast c.args.mill.now c.in_ok-tree.tree c.run.new.self c.in-Least.plan = subst (λ (e : Ended). IsEnded c.args.mill.now c.args.nodes.now.limit c.in_ok-tree.tree c.run.new.self e) c.in-Least.is c.in_ok-plan.ensures.ended in
+    subst (λ (q : Point). length q.steps.steps ≤ c.args.nodes.now.limit) (sym c.proved.ensures)
+    (omega (arith, c.in_ok-steps-in-Least.ensures.fewer, ends.tree.opened, c.run.ensures.room))
+
+pub returns-in_ok-steps-in-NoPlan-clause-within : goal.returns-in_ok-steps-in-NoPlan-clause-within
+returns-in_ok-steps-in-NoPlan-clause-within c =
+    let ends : EndsNoPlan c.args.mill.now c.in_ok-tree.tree c.run.new.self = subst (λ (e : Ended). IsEnded c.args.mill.now c.args.nodes.now.limit c.in_ok-tree.tree c.run.new.self e) c.in-NoPlan.is c.in_ok-plan.ensures.ended in
+    omega (arith, c.in_ok-steps-in-NoPlan.ensures.fewer, ends.tree.opened, c.run.ensures.room)
+
+pub returns-in_ok-open_tree-in-Budget-clause-within : goal.returns-in_ok-open_tree-in-Budget-clause-within
+returns-in_ok-open_tree-in-Budget-clause-within c =
+    let first = c.in_ok-tree.tree in
+    let last = c.run.new.self in
+    let ends : EndsBudget c.args.mill.now c.args.nodes.now.limit c.run.new.self = subst (λ (e : Ended). IsEnded c.args.mill.now c.args.nodes.now.limit c.in_ok-tree.tree c.run.new.self e) c.in-Budget.is c.in_ok-plan.ensures.ended in
+    let rest = c.in_ok-open_tree-in-Budget.field-0 in
+    omega (arith, c.run.ensures.room, refused_few c.args.nodes.now c.run.new.nodes first last c.in_ok-tree.ensures.tree.no_nodes c.in_ok-tree.ensures.tree.none_opened c.run.ensures.counts rest c.args.mill.now c.args.nodes.now.limit ends.tree c.in_ok-open_tree-in-Budget.ensures.outline)
 
 pub returns-in_ok-open_tree-in-Budget-clause-answer : goal.returns-in_ok-open_tree-in-Budget-clause-answer
 returns-in_ok-open_tree-in-Budget-clause-answer c =

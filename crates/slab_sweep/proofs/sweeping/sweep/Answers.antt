@@ -9,13 +9,13 @@ use Rattle.slab_sweep.specs.Made.{IsFound, IsNothing, IsCut}
 use Rattle.slab_sweep.specs.Counting.{CountsNodes}
 use Rattle.slab_sweep.specs.Progress.{IsUnderWay, questions_left}
 use Rattle.slab_sweep.specs.declared.swept.Swept.{Swept}
-use Rattle.slab_sweep.specs.Swept.{IsSwept, IsAnswer, made_nodes}
+use Rattle.slab_sweep.specs.Swept.{HasTreesWithin, IsSwept, IsAnswer, made_nodes}
 use Rattle.slab_sweep.specs.declared.swept.Swept.TheVariants.{Budget}
 use Rattle.slab_tree.specs.Marking.{bare_marks}
-use Rattle.slab_sweep.specs.Questions.{IsAnswered, IsClosed, AreCounted, opening_of}
+use Rattle.slab_sweep.specs.Questions.{HasTreeWithin, IsAnswered, IsClosed, AreCounted, opening_of}
 use Rattle.slab_sweep.proofs.Openings.{found_opens, nothing_opens, cut_opens}
 use Rattle.slab_sweep.proofs.Plainly.{plainly_opens, plainly_placed, plainly_one}
-use Rattle.slab_sweep.proofs.Progress.{at_first, few_so_far, few_after, have_causes, are_no_less, goes_on, ended, cut_off, ended_answers, fewer_left}
+use Rattle.slab_sweep.proofs.Progress.{at_first, few_so_far, few_after, have_causes, are_no_less, goes_on, ended, cut_off, ended_answers, ended_within, fewer_left}
 use Rattle.slab_sweep.proofs.sweeping.sweep.Goals as goal
 
 pub questions-init : goal.questions-init
@@ -67,7 +67,7 @@ questions-preserved g c =
     let as_told : IsAsTold (g.T.Starter.told c.args.starter.now) c.args.mill.now c.count_limit-count.result c.in_ok-best.best = subst (λ (t : Telling). IsAsTold t c.args.mill.now c.count_limit-count.result c.in_ok-best.best) c.questions.invariant.2 c.in_ok-best.ensures.as_told in
     let answer : IsFound c.args.mill.now (opening_of c.args.mill.now c.count_limit-count.result c.in_ok-best.best) c.in-Found.point × KeepsBest c.args.mill.now c.count_limit-count.result c.in_ok-best.best c.in-Found.point.plan × AreCounted (length c.in-Found.point.steps.steps) (bare_marks c.in-Found.point.steps.marks) c.questions.nodes c.ask.new.nodes c.questions.tally c.ask.new.tally = subst (λ (a : Answer). IsAnswered c.args.mill.now c.count_limit-count.result c.in_ok-best.best c.questions.nodes c.ask.new.nodes c.questions.tally c.ask.new.tally a) c.in-Found.is c.in_ok-point.ensures.answer in (
       subst (λ (ps : List Point). IsUnderWay (g.T.Starter.told c.args.starter.now) c.args.mill.now c.args.head ps c.args.nodes.now c.ask.new.nodes c.args.tally.now c.ask.new.tally) (sym c.in_ok-place-in-Found.ensures)
-          (goes_on c.questions.invariant.0 c.ask.ensures.opens c.ask.ensures.counters c.in-Found.point c.ask.ensures.causes (found_opens (g.T.Starter.told c.args.starter.now) c.args.mill.now (last_sums None c.questions.points.items) c.count_limit-count.result c.in_ok-best.best count as_told c.in-Found.point answer.0) answer.2
+          (goes_on c.questions.invariant.0 c.ask.ensures.opens c.ask.ensures.counters c.in-Found.point c.ask.ensures.causes (found_opens (g.T.Starter.told c.args.starter.now) c.args.mill.now (last_sums None c.questions.points.items) c.count_limit-count.result c.in_ok-best.best count as_told c.in-Found.point answer.0) answer.2 (subst (λ (a : Answer). HasTreeWithin c.questions.nodes.limit a) c.in-Found.is c.in_ok-point.ensures.within)
           (λ t empty. plainly_placed (g.T.Starter.told c.args.starter.now) c.args.mill.now t c.count_limit-count.result c.in_ok-best.best as_told c.args.nodes.now c.questions.nodes c.questions.points.items c.in-Found.point c.ask.new.nodes c.orders-orders.ensures.limits c.in_ok-best.ensures.legal (c.questions.invariant.0.plainly t empty) count answer.0 answer.1 ((c.in_ok-point.ensures.plain (plainly_opens (g.T.Starter.told c.args.starter.now) c.args.mill.now t c.count_limit-count.result c.in_ok-best.best as_told c.args.nodes.now c.questions.nodes c.questions.points.items (c.questions.invariant.0.plainly t empty) count)).one))),
       c.ask.ensures.pool,
       c.start.ensures.tells ∙ c.questions.invariant.2,
@@ -140,6 +140,16 @@ returns-in-Nothing-clause-made g c =
     let answer : IsNothing c.args.mill.now (opening_of c.args.mill.now c.count_limit-count.result c.in_ok-best.best) c.in-Nothing.steps × AreCounted (length c.in-Nothing.steps.steps) (bare_marks c.in-Nothing.steps.marks) c.questions.nodes c.ask.new.nodes c.questions.tally c.ask.new.tally = subst (λ (a : Answer). IsAnswered c.args.mill.now c.count_limit-count.result c.in_ok-best.best c.questions.nodes c.ask.new.nodes c.questions.tally c.ask.new.tally a) c.in-Nothing.is c.in_ok-point.ensures.answer in
     subst (λ (s : Swept). CountsNodes (made_nodes c.args.head s) c.args.nodes.now c.ask.new.nodes) (sym c.finished.ensures)
     (ended c.questions.invariant.0 c.ask.ensures.opens c.ask.ensures.counters c.in-Nothing.steps (nothing_opens (g.T.Starter.told c.args.starter.now) c.args.mill.now (last_sums None c.questions.points.items) c.count_limit-count.result c.in_ok-best.best count as_told c.in-Nothing.steps answer.0) answer.1).1
+
+pub returns-in-Nothing-clause-within : goal.returns-in-Nothing-clause-within
+returns-in-Nothing-clause-within g c =
+    subst (λ (s : Swept). HasTreesWithin c.args.nodes.now.limit c.args.head s) (sym c.finished.ensures)
+    (ended_within c.questions.invariant.0 c.in-Nothing.steps (subst (λ (a : Answer). HasTreeWithin c.questions.nodes.limit a) c.in-Nothing.is c.in_ok-point.ensures.within))
+
+pub returns-in-Cut-clause-within : goal.returns-in-Cut-clause-within
+returns-in-Cut-clause-within g c =
+    subst (λ (ps : List Point). HasTreesWithin c.args.nodes.now.limit c.args.head (Budget ps c.in-Cut.open_tree)) (sym c.new-in-Cut.ensures)
+    (c.questions.invariant.0.within, omega (arith, subst (λ (a : Answer). HasTreeWithin c.questions.nodes.limit a) c.in-Cut.is c.in_ok-point.ensures.within, c.questions.invariant.0.room.limit))
 
 pub returns-in-Nothing-clause-plain : goal.returns-in-Nothing-clause-plain
 returns-in-Nothing-clause-plain g c =

@@ -4,7 +4,7 @@ use Rattle.slab_node.specs.declared.turned.Turned.{Turned}
 use Rattle.mill_model.specs.Prices.{Refutes}
 use Rattle.slab_tree.proofs.BoundedTurns.{turn_greater, refuted_or_not, spread_greater}
 use Rattle.slab_tree.proofs.Limits.{refutes_greater, plain_smaller}
-use Rattle.slab_tree.proofs.Tallies.{no_less_trans}
+use Rattle.slab_relax.proofs.Counting.{no_less_trans}
 use Rattle.slab_tree.proofs.bounding.bounded_turn.Goals as goal
 
 pub returns-in-None-clause-turned : goal.returns-in-None-clause-turned

@@ -4,7 +4,9 @@ use Rattle.mill_model.specs.declared.sums.Sums.{Sums}
 use Rattle.cert_rules.specs.States.Outcome.{Proved, Unfinished}
 use Rattle.cert_rules.specs.Verdicts.{IsVerdict, verdict_of}
 use Rattle.cert_rules.specs.Verdicts.Verdict.{Front, NoPlan, CutOff}
+use Rattle.cert_check.specs.declared.ending.Ending.{Ending}
 use Rattle.cert_check.specs.declared.ending.Ending.TheVariants as endings
+use Rattle.cert_check.specs.Endings.{HasAccepted}
 use Rattle.cert_check.specs.Readings.{Reading, Stands}
 use Rattle.cert_check.proofs.Checked.{verdict_from, no_plan_from, front_from, empty_from}
 use Rattle.cert_check.proofs.checker.Checker.end.Goals as goal
@@ -13,7 +15,8 @@ pub returns-in-Ok-Unfinished-clause-verdict : goal.returns-in-Ok-Unfinished-clau
 returns-in-Ok-Unfinished-clause-verdict c = λ bytes stands.
     let r : Reading = c.self.inside.reader.reading in
     let points : List Sums = c.in-Ok-Unfinished.points in
-    let accepted = c.in-Ok-Unfinished.ensures.accepted bytes (subst (λ (x : Reading). Stands x bytes) (sym c.self.view_is) stands) in
+    let is : c.in-Ok-Unfinished.field-0 ≡ endings.Unfinished points = cc in
+    let accepted : HasAccepted r bytes (endings.Unfinished points) = subst (λ (e : Ending). HasAccepted r bytes e) is (c.in-Ok-Unfinished.ensures.accepted bytes (subst (λ (x : Reading). Stands x bytes) (sym c.self.view_is) stands)) in
     let h : IsVerdict r.mill bytes (verdict_of Unfinished points) = verdict_from r bytes (endings.Unfinished points) c.self.invariant c.in-Ok-Unfinished.ensures.limits accepted in
     subst (λ (x : Reading). IsVerdict x.mill bytes (CutOff points)) c.self.view_is (h)
 
@@ -21,7 +24,8 @@ pub returns-then-is_empty-clause-verdict : goal.returns-then-is_empty-clause-ver
 returns-then-is_empty-clause-verdict c = λ bytes stands.
     let r : Reading = c.self.inside.reader.reading in
     let points : List Sums = c.in-Ok-Proved.points in
-    let accepted = c.in-Ok-Proved.ensures.accepted bytes (subst (λ (x : Reading). Stands x bytes) (sym c.self.view_is) stands) in
+    let is : c.in-Ok-Proved.field-0 ≡ endings.Proved points = cc in
+    let accepted : HasAccepted r bytes (endings.Proved points) = subst (λ (e : Ending). HasAccepted r bytes e) is (c.in-Ok-Proved.ensures.accepted bytes (subst (λ (x : Reading). Stands x bytes) (sym c.self.view_is) stands)) in
     let h : IsVerdict r.mill bytes (verdict_of Proved points) = verdict_from r bytes (endings.Proved points) c.self.invariant c.in-Ok-Proved.ensures.limits accepted in
     subst (λ (x : Reading). IsVerdict x.mill bytes NoPlan) c.self.view_is (no_plan_from r.mill bytes points h (empty_from points (sym (ap (λ (ps : List Sums). length ps) c.list.ensures) ∙ eqb-true (length c.list.result.now) 0 (sym c.is_empty.ensures ∙ c.if-is_empty.true))))
 
@@ -29,6 +33,7 @@ pub returns-else-is_empty-clause-verdict : goal.returns-else-is_empty-clause-ver
 returns-else-is_empty-clause-verdict c = λ bytes stands.
     let r : Reading = c.self.inside.reader.reading in
     let points : List Sums = c.in-Ok-Proved.points in
-    let accepted = c.in-Ok-Proved.ensures.accepted bytes (subst (λ (x : Reading). Stands x bytes) (sym c.self.view_is) stands) in
+    let is : c.in-Ok-Proved.field-0 ≡ endings.Proved points = cc in
+    let accepted : HasAccepted r bytes (endings.Proved points) = subst (λ (e : Ending). HasAccepted r bytes e) is (c.in-Ok-Proved.ensures.accepted bytes (subst (λ (x : Reading). Stands x bytes) (sym c.self.view_is) stands)) in
     let h : IsVerdict r.mill bytes (verdict_of Proved points) = verdict_from r bytes (endings.Proved points) c.self.invariant c.in-Ok-Proved.ensures.limits accepted in
     subst (λ (x : Reading). IsVerdict x.mill bytes (Front points)) c.self.view_is (front_from r.mill bytes points h (λ none. eqb-false (length c.list.result.now) 0 (sym c.is_empty.ensures ∙ c.if-is_empty.false) (ap (λ (ps : List Sums). length ps) (c.list.ensures ∙ none))))

@@ -32,6 +32,6 @@ returns-in-Some-Ok-clause-moved c = λ _. line_has_moved _ _ _ c.self.inside.tak
 pub returns-in-Some-Err-clause-stands : goal.returns-in-Some-Err-clause-stands
 returns-in-Some-Err-clause-stands c = let fails = ap (λ (f : Failure). Some f) c.failure_after.ensures in (bad_has_taken _ _ _ c.self.inside.taken c.self.inside.held _ _ _ c.self.view_is c.requires.running c.requires.open _ _ _ c.let_go.ensures c.feed-taken.ensures.held c.in-Some-Err.field-0 c.in-Some-Err.why (c.with_column-why.result) c.match-self.self.reading c.in-Some-Err.field-0-is c.in-Some-Err.ensures.step c.read_line.ensures.same
     c.with_column-why.ensures.why c.with_column-why.ensures.column
-    (elim c.match-self.branch [ | in-Some-self+in-Column-1 w ↦ ap (λ (v : Reader). v.reading.mill) w.self-is | in-Some-self+in-Extra-1 w ↦ ap (λ (v : Reader). v.reading.mill) w.self-is | in-None-1 w ↦ ap (λ (v : Reader). v.reading.mill) w.self-is ])
-    (elim c.match-self.branch [ | in-Some-self+in-Column-1 w ↦ ap (λ (v : Reader). v.reading.wanted) w.self-is | in-Some-self+in-Extra-1 w ↦ ap (λ (v : Reader). v.reading.wanted) w.self-is | in-None-1 w ↦ ap (λ (v : Reader). v.reading.wanted) w.self-is ])
-    (elim c.match-self.branch [ | in-Some-self+in-Column-1 w ↦ ap (λ (v : Reader). v.reading.failed) w.self-is ∙ fails | in-Some-self+in-Extra-1 w ↦ ap (λ (v : Reader). v.reading.failed) w.self-is ∙ fails | in-None-1 w ↦ ap (λ (v : Reader). v.reading.failed) w.self-is ∙ fails ])).stands
+    (elim c.match-self.branch [ in-Some-self+in-Column-1 w ↦ ap (λ (v : Reader). v.reading.mill) w.self-is | in-Some-self+in-Extra-1 w ↦ ap (λ (v : Reader). v.reading.mill) w.self-is | in-None-1 w ↦ ap (λ (v : Reader). v.reading.mill) w.self-is ])
+    (elim c.match-self.branch [ in-Some-self+in-Column-1 w ↦ ap (λ (v : Reader). v.reading.wanted) w.self-is | in-Some-self+in-Extra-1 w ↦ ap (λ (v : Reader). v.reading.wanted) w.self-is | in-None-1 w ↦ ap (λ (v : Reader). v.reading.wanted) w.self-is ])
+    (elim c.match-self.branch [ in-Some-self+in-Column-1 w ↦ ap (λ (v : Reader). v.reading.failed) w.self-is ∙ fails | in-Some-self+in-Extra-1 w ↦ ap (λ (v : Reader). v.reading.failed) w.self-is ∙ fails | in-None-1 w ↦ ap (λ (v : Reader). v.reading.failed) w.self-is ∙ fails ])).stands

@@ -2,7 +2,7 @@ use Rattle.std.proofs.Common.{◌≡◌, ◌≤ℤ◌, below_more, arith, to_z, 
 use Rattle.std.specs.Int.{w128}
 use Rattle.std.proofs.lemmas.Int.{ints}
 use Rattle.mill_model.specs.declared.kind.Kind.TheVariants.{Old}
-use Rattle.price_check.specs.Leaves.{IsEndOf}
+use Rattle.pricing_laws.specs.Bounds.{IsEndOf}
 use Rattle.price_check.proofs.leaf.Leaf.end.Goals as goal
 
 pub loop-slab-preserved : goal.loop-slab-preserved
@@ -12,7 +12,7 @@ loop-slab-preserved c =
     rw same (record {
       small = c.end_of_old-end.ensures.small;
       cast = λ size listed holds. omega (arith, ints, grows, c.loop-slab.end-is, c.loop-slab.invariant.cast size listed holds);
-      yard = below_more (λ s. IsEndOf c.args.self.now c.args.load (Old s) c.end_of_old-end.result) c.loop-slab.slab
+      yard = below_more (λ s. IsEndOf c.args.self.now.mill.now c.args.self.now.quote.now c.args.load (Old s) c.end_of_old-end.result) c.loop-slab.slab
           (λ s h stock holds. omega (arith, ints, grows, c.loop-slab.end-is, c.loop-slab.invariant.yard s h stock holds))
           c.end_of_old-end.ensures.most;
     })

@@ -1,5 +1,5 @@
 use Rattle.std.proofs.Common.{◌≡◌, ℕ, ◌<◌, length, get_or, vec_capacity}
-use Rattle.price_check.specs.Frames.{colour_key}
+use Rattle.pricing_laws.specs.Frames.{colour_key}
 use Rattle.price_check.proofs.leaf.Leaf.fill_keys.Given as goal
 
 abbrev pub invariant-loop-order : goal.invariant-loop-order

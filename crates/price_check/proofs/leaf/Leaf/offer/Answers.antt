@@ -1,8 +1,8 @@
 use Rattle.std.proofs.Common.{◌≡◌, length, sym, ◌∙◌}
-use Rattle.price_check.specs.Finds.{IsOnNew, IsOnYard}
+use Rattle.pricing_laws.specs.Packs.{IsOnNew, IsOnYard}
 use Rattle.price_check.specs.Leaves.{problem_of}
 use Rattle.price_check.proofs.Answering.{answer_both, answer_empty, answer_found}
-use Rattle.price_check.proofs.Packs.{on_some_slab}
+use Rattle.pricing_laws.proofs.Packs.{on_some_slab}
 use Rattle.price_check.proofs.leaf.Leaf.offer.Goals as goal
 
 pub returns-then-is_some : goal.returns-then-is_some

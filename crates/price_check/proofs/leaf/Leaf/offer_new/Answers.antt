@@ -4,10 +4,11 @@ use Rattle.std.proofs.lemmas.Int.{ints}
 use Rattle.mill_model.specs.declared.kind.Kind.{Kind}
 use Rattle.mill_model.specs.declared.kind.Kind.TheVariants.{New}
 use Rattle.mill_model.specs.LeastSizes.{IsLeastSize}
-use Rattle.price_check.specs.Finds.{IsAnswer, IsColumn, IsOnNew, IsPack}
+use Rattle.pricing_laws.specs.Packs.{IsColumn, IsOnNew, IsPack}
+use Rattle.price_check.specs.Finds.{IsAnswer}
 use Rattle.price_check.specs.Leaves.{problem_of}
 use Rattle.price_check.proofs.Answering.{answer_none, answer_wider}
-use Rattle.price_check.proofs.Packs.{pack_large, pack_new}
+use Rattle.pricing_laws.proofs.Packs.{pack_large, pack_new}
 use Rattle.price_check.proofs.leaf.Leaf.offer_new.Goals as goal
 
 pub offer_on-requires : goal.offer_on-requires

@@ -6,10 +6,11 @@ use Rattle.mill_model.specs.Columns.{Column, has_barred}
 use Rattle.mill_model.specs.Decisions.{column_agrees}
 use Rattle.pricing_laws.specs.Gains.{cost_of}
 use Rattle.pricing_laws.proofs.Problems.{exceed_none}
-use Rattle.price_check.specs.Finds.{IsColumn}
+use Rattle.pricing_laws.specs.Packs.{IsColumn}
 use Rattle.price_check.specs.Leaves.{problem_of}
 use Rattle.price_check.proofs.Answering.{answer_none, answer_some}
-use Rattle.price_check.proofs.Packs.{pack_exceeds, pack_on}
+use Rattle.pricing_laws.proofs.Packs.{pack_on}
+use Rattle.price_check.proofs.Packs.{pack_exceeds}
 use Rattle.price_check.proofs.leaf.Leaf.offer_on.Goals.{then-has_barred-via-then-has_barred, then-has_barred-via-else-has_barred+then-not-agrees}
 use Rattle.price_check.proofs.leaf.Leaf.offer_on.Goals as goal
 

@@ -1,6 +1,6 @@
 use Rattle.std.proofs.Common.{pos}
 use Rattle.pricing_laws.specs.Problems.{ExceedAtMost}
-use Rattle.price_check.specs.Finds.{IsOnYard}
+use Rattle.pricing_laws.specs.Packs.{IsOnYard}
 use Rattle.price_check.specs.Leaves.{problem_of}
 use Rattle.price_check.proofs.leaf.Leaf.offer_yard.Given as goal
 

@@ -1,8 +1,7 @@
 use Rattle.std.proofs.Common.{◌≡◌, ℕ, List, length, ap, sym, subst, ◌∙◌, arith}
 use Rattle.mill_model.specs.Decisions.{Decision}
-use Rattle.mill_model.specs.Prices.{Prices, HasCount, HasSigns, HasLimits, IsWorth, prices_of}
+use Rattle.mill_model.specs.Prices.{Prices, HasCount, HasSigns, HasLimits, IsWorth, NoneExceeds, prices_of}
 use Rattle.price_check.specs.Path.{Path}
-use Rattle.mill_model.specs.Prices.{NoneExceeds}
 use Rattle.price_check.proofs.Options.{none_at}
 use Rattle.price_check.proofs.LeafRules.{refutes_from, found_exceeds, ArePrices-from_numbers}
 use Rattle.price_check.proofs.path.Path.leaf_ok.Goals as goal

@@ -5,10 +5,11 @@ use Rattle.mill_model.specs.declared.order.Order.{Order}
 use Rattle.mill_model.specs.Mill.{IsBetween}
 use Rattle.pricing_laws.proofs.Parts.{has_at}
 use Rattle.price_check.specs.declared.queue.Queue.{Queue}
-use Rattle.price_check.specs.Chains.{IsNextOf}
-use Rattle.price_check.specs.Frames.{colour_key}
-use Rattle.price_check.proofs.Gathering.{AreGatheredTo, gathering_key, gathering_room, gathering_skip, gathering_start, gathering_take}
+use Rattle.pricing_laws.specs.Chains.{IsNextOf}
+use Rattle.pricing_laws.specs.Frames.{colour_key}
+use Rattle.pricing_laws.proofs.Gathering.{AreGatheredTo, gathering_key, gathering_room, gathering_skip, gathering_start, gathering_take}
 use Rattle.price_check.proofs.search.Search.gather_colour.Goals.{then-is_group_of, else-is_group_of}
+use Rattle.price_check.specs.Searches.{search_of}
 use Rattle.price_check.proofs.search.Search.gather_colour.Goals as goal
 
 pub index-head-requires : goal.index-head-requires
@@ -26,13 +27,13 @@ heads-init c =
     let lt : colour < length first = omega (arith, known.1, s.framed.by_colour.keys) in
     let head : c.index-head.result.now ≡ get_or first colour 0 = c.index-head.ensures ∙ ap (λ k. get_or first k c.index-head.result.now) c.from.ensures ∙ get_or_default first colour c.index-head.result.now 0 lt in
     let next : IsNextOf (colour_key s.leaf.mill.now s.frame.now.groups.heads) (length s.leaf.mill.now.orders) colour 0 c.index-head.result.now = subst (IsNextOf (colour_key s.leaf.mill.now s.frame.now.groups.heads) (length s.leaf.mill.now.orders) colour 0) (sym head) (s.framed.by_colour.chained.first_of colour lt) in
-    gathering_start s c.args.colours.now c.args.at c.requires.at c.requires.ranked c.index-head.result.now c.args.queue.now.heads.items next c.requires.gathered
+    gathering_start (search_of s) c.args.colours.now c.args.at c.requires.at c.requires.ranked c.index-head.result.now c.args.queue.now.heads.items next c.requires.gathered
 
 pub push_reserved-requires : goal.push_reserved-requires
 push_reserved-requires c =
     let s = c.args.self.now in
     let below : c.heads.head < length s.leaf.mill.now.orders = omega (arith, c.heads-test.true, c.from-in-heads.ensures, ap (λ (os : List Order). length os) c.orders-orders.ensures.value) in
-    omega (arith, gathering_room s c.args.colours.now c.args.at c.requires.at c.requires.ranked c.heads.head c.heads.queue.heads.items below c.heads.invariant, s.leaf.asked.limits.order_count, c.heads.queue.heads.ok.0, c.heads.queue.heads_room)
+    omega (arith, gathering_room (search_of s) c.args.colours.now c.args.at c.requires.at c.requires.ranked c.heads.head c.heads.queue.heads.items below c.heads.invariant, s.leaf.asked.limits.order_count, c.heads.queue.heads.ok.0, c.heads.queue.heads_room)
 
 pub heads-preserved : goal.heads-preserved
 heads-preserved c =
@@ -46,9 +47,9 @@ heads-preserved c =
     let next : IsNextOf (colour_key s.leaf.mill.now s.frame.now.groups.heads) (length s.leaf.mill.now.orders) colour (head + 1) c.index-head-in-heads.result.now =
     subst (IsNextOf (colour_key s.leaf.mill.now s.frame.now.groups.heads) (length s.leaf.mill.now.orders) colour (head + 1)) (sym linked)
     (subst (λ (key : ℕ). IsNextOf (colour_key s.leaf.mill.now s.frame.now.groups.heads) (length s.leaf.mill.now.orders) key (head + 1) (get_or links head 0))
-    (gathering_key s c.args.colours.now c.args.at c.requires.at c.requires.ranked head c.heads.queue.heads.items below c.heads.invariant) (s.framed.by_colour.chained.next_of head (omega arith) below)) in
+    (gathering_key (search_of s) c.args.colours.now c.args.at c.requires.at c.requires.ranked head c.heads.queue.heads.items below c.heads.invariant) (s.framed.by_colour.chained.next_of head (omega arith) below)) in
     elim c.if-is_group_of.branch [
-      | then-is_group_of w ↦ gathering_take s c.args.colours.now c.args.at c.requires.at c.requires.ranked head c.index-head-in-heads.result.now c.heads.queue.heads.items c.if-is_group_of.queue.heads.items (ap (λ (q : Queue). q.heads.items) w.queue-is ∙ w.push_reserved.ensures.items) below next (OnTrue_at w.if-is_group_of.true c.is_group_of.ensures.yes) c.heads.invariant
-      | else-is_group_of w ↦ subst (λ (q : Queue). AreGatheredTo s c.args.colours.now c.args.at c.index-head-in-heads.result.now q.heads.items) (sym w.queue-is)
-          (gathering_skip s c.args.colours.now c.args.at c.requires.at c.requires.ranked head c.index-head-in-heads.result.now c.heads.queue.heads.items next (OnFalse_at w.if-is_group_of.false c.is_group_of.ensures.no) c.heads.invariant)
+      | then-is_group_of w ↦ gathering_take (search_of s) c.args.colours.now c.args.at c.requires.at c.requires.ranked head c.index-head-in-heads.result.now c.heads.queue.heads.items c.if-is_group_of.queue.heads.items (ap (λ (q : Queue). q.heads.items) w.queue-is ∙ w.push_reserved.ensures.items) below next (OnTrue_at w.if-is_group_of.true c.is_group_of.ensures.yes) c.heads.invariant
+      | else-is_group_of w ↦ subst (λ (q : Queue). AreGatheredTo (search_of s) c.args.colours.now c.args.at c.index-head-in-heads.result.now q.heads.items) (sym w.queue-is)
+          (gathering_skip (search_of s) c.args.colours.now c.args.at c.requires.at c.requires.ranked head c.index-head-in-heads.result.now c.heads.queue.heads.items next (OnFalse_at w.if-is_group_of.false c.is_group_of.ensures.no) c.heads.invariant)
     ]

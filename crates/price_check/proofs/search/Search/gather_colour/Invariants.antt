@@ -1,9 +1,10 @@
 use Rattle.std.proofs.Common.{◌-◌, length}
-use Rattle.price_check.proofs.Gathering.{AreGatheredTo}
+use Rattle.pricing_laws.proofs.Gathering.{AreGatheredTo}
+use Rattle.price_check.specs.Searches.{search_of}
 use Rattle.price_check.proofs.search.Search.gather_colour.Given as goal
 
 abbrev pub invariant-heads : goal.invariant-heads
-invariant-heads l = AreGatheredTo l.self l.colours l.fn.at l.head l.queue.heads.items
+invariant-heads l = AreGatheredTo (search_of l.self) l.colours l.fn.at l.head l.queue.heads.items
 
 abbrev pub decreases-heads : goal.decreases-heads
 decreases-heads l = length l.self.leaf.mill.now.orders - l.head

@@ -8,7 +8,7 @@ use Rattle.price_check.proofs.search.Search.is_apart.Goals as goal
 
 -- the mark of two orders is one of the marks
 place_within : (s : Search) (orders a b : ℕ) → orders ≡ length s.leaf.mill.now.orders → a < length s.leaf.mill.now.orders → b < length s.leaf.mill.now.orders → a * orders + b < length s.frame.now.apart.items
-place_within s orders a b same p q = omega (arith, mark_within (length s.leaf.mill.now.orders) a b p q, s.framed.apart.size, ap (λ k. a * k) same)
+place_within s orders a b same p q = omega (arith, mark_within (length s.leaf.mill.now.orders) a b p q, s.apart.size, ap (λ k. a * k) same)
 
 pub index-requires : goal.index-requires
 index-requires c =
@@ -31,4 +31,4 @@ returns-then-index c =
     let within : place < length marks = place_within s (length c.orders-orders.result.now) c.from.result c.from-in-loop-other.result many (omega (arith, known, c.from.ensures)) (omega (arith, c.requires.head, c.from-in-loop-other.ensures)) in
     let same : place ≡ other * n + c.args.head = ap₂ (λ (a b : ℕ). a + b) (ap₂ (λ (a b : ℕ). a * b) c.from.ensures many) c.from-in-loop-other.ensures in
     let marked : get_or marks (other * n + c.args.head) false ≡ true = ap (λ k. get_or marks k false) (sym same) ∙ get_or_default marks place false c.index.result.now within ∙ sym c.index.ensures ∙ c.if-index.true in
-    (other, there, s.framed.apart.never other c.args.head known c.requires.head marked)
+    (other, there, s.apart.never other c.args.head known c.requires.head marked)

@@ -6,23 +6,14 @@ use Rattle.std.proofs.lemmas.Bool.{OnTrue_from}
 use Rattle.std.proofs.lemmas.Int.{ints, unsigned_abs-mul}
 use Rattle.std.proofs.lemmas.Nat.{mul-le}
 use Rattle.pricing_laws.proofs.Numbers.{le_true}
+use Rattle.pricing_laws.proofs.Products.{few_small, product_back}
 use Rattle.pricing_laws.specs.Problems.{ExceedAtMost}
 use Rattle.pricing_laws.proofs.Problems.{exceed_weaker}
 use Rattle.pricing_laws.proofs.Worths.{set_bounded}
-use Rattle.price_check.specs.Searches.{IsOfSetIn}
+use Rattle.pricing_laws.specs.Searches.{IsOfSetIn}
 use Rattle.price_check.specs.Leaves.{problem_of}
+use Rattle.price_check.specs.Searches.{search_of}
 use Rattle.price_check.proofs.search.Search.is_hopeless.Goals as goal
-
--- a few times a small number
-few_small : (left : ℕ) (top : ℤ) → left ≤ 3 → unsigned_abs top ≤ 2 ^ 94 → unsigned_abs (pos left *ℤ top) ≤ 3 * 2 ^ 94
-few_small left top few small = omega (arith, ints, unsigned_abs-mul (pos left) top, mul-le left (unsigned_abs top) 3 (2 ^ 94) few small)
-
--- the product as it was computed
-product_back : (left : ℕ) (top x : ℤ) → left ≤ 3 → unsigned_abs top ≤ 2 ^ 94 → x ≡ pos left → to_z w128 (of_z w128 (to_z w128 (of_z w128 x) *ℤ to_z w128 (of_z w128 top))) ≡ pos left *ℤ top
-product_back left top x few small e =
-    let a : to_z w128 (of_z w128 x) ≡ pos left = omega (arith, ints) in
-    let b : to_z w128 (of_z w128 top) ≡ top = omega (arith, ints) in
-    rw (a, b) (omega (arith, ints, few_small left top few small))
 
 -- the test as it was computed
 low : (worth product exact floor : ℤ) → product ≡ exact → unsigned_abs exact ≤ 3 * 2 ^ 94 → unsigned_abs worth ≤ 2 ^ 100 → unsigned_abs floor ≤ 2 ^ 62
@@ -44,7 +35,7 @@ returns c taken from =
     let floor = s.frame.now.floor in
     let back : to_z w128 (of_z w128 (to_z w128 (of_z w128 c.from.result) *ℤ to_z w128 (of_z w128 top))) ≡ pos left *ℤ top = product_back left top c.from.result c.requires.left c.top.ensures.small c.from.ensures in
     let few : unsigned_abs (pos left *ℤ top) ≤ 3 * 2 ^ 94 = few_small left top c.requires.left c.top.ensures.small in
-    let bound : ExceedAtMost q ((c.args.worth +ℤ pos left *ℤ top) -ℤ floor) (IsOfSetIn s taken c.args.rank left) =
+    let bound : ExceedAtMost q ((c.args.worth +ℤ pos left *ℤ top) -ℤ floor) (IsOfSetIn (search_of s) taken c.args.rank left) =
     set_bounded q s.frame.now.groups s.framed.groups s.frame.now.worths.items s.framed.worths floor s.framed.floor s.leaf.asked.sign s.frame.now.ranking.items c.args.rank left taken c.args.worth top from c.top.ensures.sign c.top.ensures.most in
-    OnTrue_from _ _ (λ e. exceed_weaker q ((c.args.worth +ℤ pos left *ℤ top) -ℤ floor) (pos 0) (IsOfSetIn s taken c.args.rank left) (IsOfSetIn s taken c.args.rank left)
+    OnTrue_from _ _ (λ e. exceed_weaker q ((c.args.worth +ℤ pos left *ℤ top) -ℤ floor) (pos 0) (IsOfSetIn (search_of s) taken c.args.rank left) (IsOfSetIn (search_of s) taken c.args.rank left)
     (low c.args.worth (to_z w128 (of_z w128 (to_z w128 (of_z w128 c.from.result) *ℤ to_z w128 (of_z w128 top)))) (pos left *ℤ top) floor back few c.requires.small s.framed.small e) (λ d allowed set. set) bound)

@@ -6,7 +6,8 @@ use Rattle.mill_model.specs.Columns.{has}
 use Rattle.pricing_laws.specs.Parts.{left_of}
 use Rattle.pricing_laws.specs.Worths.{worth_of}
 use Rattle.pricing_laws.proofs.Worths.{top_of}
-use Rattle.price_check.proofs.Ranks.{rank_inside, worth_small}
+use Rattle.pricing_laws.proofs.Ranks.{rank_inside, worth_small}
+use Rattle.price_check.specs.Searches.{search_of}
 use Rattle.price_check.proofs.search.Search.top.Goals as goal
 
 pub index-requires-2 : goal.index-requires-2
@@ -17,7 +18,7 @@ index-requires-2 c =
     let next : c.args.rank ≡ c.args.rank - 1 + 1 = omega (arith, c.if-rank-eq0.false) in
     let lt : c.args.rank - 1 < length ranking = omega (arith, next, c.requires) in
     let colour : c.from.result ≡ get_or ranking (c.args.rank - 1) 0 = c.from.ensures ∙ c.index.ensures ∙ get_or_default ranking (c.args.rank - 1) c.index.result.now 0 lt in
-    omega (arith, colour, rank_inside s (c.args.rank - 1) lt, s.frame.now.worths.ok.0)
+    omega (arith, colour, rank_inside (search_of s) (c.args.rank - 1) lt, s.frame.now.worths.ok.0)
 
 pub returns-clause-most : goal.returns-clause-most
 returns-clause-most c x e =
@@ -28,8 +29,8 @@ returns-clause-most c x e =
     let lt : c.args.rank - 1 < length ranking = omega (arith, next, c.requires) in
     let colour : c.from.result ≡ get_or ranking (c.args.rank - 1) 0 = c.from.ensures ∙ c.index.ensures ∙ get_or_default ranking (c.args.rank - 1) c.index.result.now 0 lt in
     let value : c.index-2.result.now ≡ worth_of worths (get_or ranking (c.args.rank - 1) 0) =
-    c.index-2.ensures ∙ ap (λ k. get_or worths k c.index-2.result.now) colour ∙ get_or_default worths (get_or ranking (c.args.rank - 1) 0) c.index-2.result.now (pos 0) (rank_inside s (c.args.rank - 1) lt) in
-    let back : to_z w128 (of_z w128 c.index-2.result.now) ≡ worth_of worths (get_or ranking (c.args.rank - 1) 0) = omega (arith, ints, value, worth_small s (get_or ranking (c.args.rank - 1) 0)) in
+    c.index-2.ensures ∙ ap (λ k. get_or worths k c.index-2.result.now) colour ∙ get_or_default worths (get_or ranking (c.args.rank - 1) 0) c.index-2.result.now (pos 0) (rank_inside (search_of s) (c.args.rank - 1) lt) in
+    let back : to_z w128 (of_z w128 c.index-2.result.now) ≡ worth_of worths (get_or ranking (c.args.rank - 1) 0) = omega (arith, ints, value, worth_small (search_of s) (get_or ranking (c.args.rank - 1) 0)) in
     let there : has (left_of ranking (c.args.rank - 1 + 1)) x ≡ true = subst (λ (k : ℕ). has (left_of ranking k) x ≡ true) next e in
     omega (arith, ints, back, top_of s.leaf.mill.now worths ranking (c.args.rank - 1) s.framed.ranking lt x there)
 
@@ -42,8 +43,8 @@ returns-clause-sign c =
     let lt : c.args.rank - 1 < length ranking = omega (arith, next, c.requires) in
     let colour : c.from.result ≡ get_or ranking (c.args.rank - 1) 0 = c.from.ensures ∙ c.index.ensures ∙ get_or_default ranking (c.args.rank - 1) c.index.result.now 0 lt in
     let value : c.index-2.result.now ≡ worth_of worths (get_or ranking (c.args.rank - 1) 0) =
-    c.index-2.ensures ∙ ap (λ k. get_or worths k c.index-2.result.now) colour ∙ get_or_default worths (get_or ranking (c.args.rank - 1) 0) c.index-2.result.now (pos 0) (rank_inside s (c.args.rank - 1) lt) in
-    let back : to_z w128 (of_z w128 c.index-2.result.now) ≡ worth_of worths (get_or ranking (c.args.rank - 1) 0) = omega (arith, ints, value, worth_small s (get_or ranking (c.args.rank - 1) 0)) in
+    c.index-2.ensures ∙ ap (λ k. get_or worths k c.index-2.result.now) colour ∙ get_or_default worths (get_or ranking (c.args.rank - 1) 0) c.index-2.result.now (pos 0) (rank_inside (search_of s) (c.args.rank - 1) lt) in
+    let back : to_z w128 (of_z w128 c.index-2.result.now) ≡ worth_of worths (get_or ranking (c.args.rank - 1) 0) = omega (arith, ints, value, worth_small (search_of s) (get_or ranking (c.args.rank - 1) 0)) in
     omega (arith, ints, back, s.framed.worths.sign (get_or ranking (c.args.rank - 1) 0))
 
 pub returns-clause-small : goal.returns-clause-small
@@ -55,6 +56,6 @@ returns-clause-small c =
     let lt : c.args.rank - 1 < length ranking = omega (arith, next, c.requires) in
     let colour : c.from.result ≡ get_or ranking (c.args.rank - 1) 0 = c.from.ensures ∙ c.index.ensures ∙ get_or_default ranking (c.args.rank - 1) c.index.result.now 0 lt in
     let value : c.index-2.result.now ≡ worth_of worths (get_or ranking (c.args.rank - 1) 0) =
-    c.index-2.ensures ∙ ap (λ k. get_or worths k c.index-2.result.now) colour ∙ get_or_default worths (get_or ranking (c.args.rank - 1) 0) c.index-2.result.now (pos 0) (rank_inside s (c.args.rank - 1) lt) in
-    let back : to_z w128 (of_z w128 c.index-2.result.now) ≡ worth_of worths (get_or ranking (c.args.rank - 1) 0) = omega (arith, ints, value, worth_small s (get_or ranking (c.args.rank - 1) 0)) in
-    omega (arith, ints, back, worth_small s (get_or ranking (c.args.rank - 1) 0))
+    c.index-2.ensures ∙ ap (λ k. get_or worths k c.index-2.result.now) colour ∙ get_or_default worths (get_or ranking (c.args.rank - 1) 0) c.index-2.result.now (pos 0) (rank_inside (search_of s) (c.args.rank - 1) lt) in
+    let back : to_z w128 (of_z w128 c.index-2.result.now) ≡ worth_of worths (get_or ranking (c.args.rank - 1) 0) = omega (arith, ints, value, worth_small (search_of s) (get_or ranking (c.args.rank - 1) 0)) in
+    omega (arith, ints, back, worth_small (search_of s) (get_or ranking (c.args.rank - 1) 0))

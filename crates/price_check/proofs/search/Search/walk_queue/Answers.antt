@@ -4,7 +4,7 @@ use Rattle.pricing_laws.specs.Colours.{AreOf}
 use Rattle.pricing_laws.specs.Parts.{left_of}
 use Rattle.pricing_laws.proofs.Colours.{column_choice}
 use Rattle.price_check.specs.Finds.{IsAnswer}
-use Rattle.price_check.specs.Searches.{whole}
+use Rattle.pricing_laws.specs.Searches.{whole}
 use Rattle.price_check.specs.Leaves.{problem_of}
 use Rattle.price_check.proofs.Answering.{answer_less}
 use Rattle.price_check.proofs.Options.{none_weaker}

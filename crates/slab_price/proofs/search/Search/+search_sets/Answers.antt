@@ -7,11 +7,12 @@ use Rattle.pricing_laws.specs.Colours.{AreOf}
 use Rattle.pricing_laws.specs.Worths.{worth_of}
 use Rattle.pricing_laws.proofs.Parts.{popped}
 use Rattle.slab_price.specs.Bests.{IsImproved}
-use Rattle.slab_price.specs.Searches.{AreRanked, AreTakenFrom, IsOfSetIn}
+use Rattle.pricing_laws.specs.Searches.{AreRanked, AreTakenFrom, IsOfSetIn}
 use Rattle.slab_price.specs.Tasks.{problem_of}
 use Rattle.slab_price.proofs.Improving.{improved_both, improved_less}
-use Rattle.slab_price.proofs.Ranks.{next_left, next_taken, rank_inside, set_done, set_next, taken_ranked, taken_worth_small, worth_small}
+use Rattle.pricing_laws.proofs.Ranks.{next_left, next_taken, rank_inside, set_done, set_next, taken_ranked, taken_worth_small, worth_small}
 use Rattle.slab_price.proofs.search.Search.+search_sets.Goals.{then-rank-eq0-via-then-rank-eq0, then-rank-eq0-via-else-rank-eq0+then-left-eq0}
+use Rattle.slab_price.specs.Searches.{search_of}
 use Rattle.slab_price.proofs.search.Search.+search_sets.Goals as goal
 
 pub is_hopeless-requires-clause-small : goal.is_hopeless-requires-clause-small
@@ -19,14 +20,14 @@ is_hopeless-requires-clause-small t c =
     let s = c.args.self.now in
     let taken = c.args.space.now.colours.items in
     let few : length taken ≤ 3 = omega (arith, c.requires.few, s.task.asked.limits.colour_limit.1) in
-    let small : unsigned_abs c.args.worth ≤ 2 ^ 97 = taken_worth_small s c.args.rank taken c.args.worth few c.requires.taken in
+    let small : unsigned_abs c.args.worth ≤ 2 ^ 97 = taken_worth_small (search_of s) c.args.rank taken c.args.worth few c.requires.taken in
     omega (arith, ints, small)
 
 pub search_set-requires-clause-ranked : goal.search_set-requires-clause-ranked
 search_set-requires-clause-ranked t c =
     let s = c.args.self.now in
     let taken = c.args.space.now.colours.items in
-    subst (AreRanked s) (sym c.as_slice.ensures) (taken_ranked s c.args.rank taken c.args.worth (omega (arith, c.requires.few)) c.requires.taken)
+    subst (AreRanked (search_of s)) (sym c.as_slice.ensures) (taken_ranked (search_of s) c.args.rank taken c.args.worth (omega (arith, c.requires.few)) c.requires.taken)
 
 pub returns-then-rank-eq0-clause-improved : goal.returns-then-rank-eq0-clause-improved
 returns-then-rank-eq0-clause-improved t c =
@@ -38,7 +39,7 @@ returns-then-rank-eq0-clause-improved t c =
       | then-rank-eq0-via-else-rank-eq0+then-left-eq0 w ↦ inr (omega (arith, w.if-left-eq0.true))
     ] in
     let improved : IsImproved q c.args.picks.now.best c.search_set.new.picks.best (λ d. AreOf q.mill taken d.orders) = subst (λ (xs : List ℕ). IsImproved q c.args.picks.now.best c.search_set.new.picks.best (λ d. AreOf q.mill xs d.orders)) c.as_slice.ensures c.search_set.ensures.improved in
-    improved_less q c.args.picks.now.best c.search_set.new.picks.best (λ d. AreOf q.mill taken d.orders) (IsOfSetIn s taken c.args.rank c.args.left) (λ d allowed set. set_done s taken c.args.rank c.args.left done d set) improved
+    improved_less q c.args.picks.now.best c.search_set.new.picks.best (λ d. AreOf q.mill taken d.orders) (IsOfSetIn (search_of s) taken c.args.rank c.args.left) (λ d allowed set. set_done (search_of s) taken c.args.rank c.args.left done d set) improved
 
 pub index-requires : goal.index-requires
 index-requires t c =
@@ -47,21 +48,21 @@ index-requires t c =
     let worths = s.frame.now.worths.items in
     let lt : c.args.rank - 1 < length ranking = omega (arith, c.if-rank-eq0.false, c.requires.rank) in
     let colour : c.index-colour.result.now ≡ get_or ranking (c.args.rank - 1) 0 = c.index-colour.ensures ∙ get_or_default ranking (c.args.rank - 1) c.index-colour.result.now 0 lt in
-    omega (arith, c.from.ensures, colour, rank_inside s (c.args.rank - 1) lt, s.frame.now.worths.ok.0)
+    omega (arith, c.from.ensures, colour, rank_inside (search_of s) (c.args.rank - 1) lt, s.frame.now.worths.ok.0)
 
 pub overflow_add-richer : goal.overflow_add-richer
 overflow_add-richer t c =
     let s = c.args.self.now in
     let taken = c.args.space.now.colours.items in
     let few : length taken ≤ 3 = omega (arith, c.requires.few, s.task.asked.limits.colour_limit.1) in
-    let small : unsigned_abs c.args.worth ≤ 2 ^ 97 = taken_worth_small s c.args.rank taken c.args.worth few c.requires.taken in
+    let small : unsigned_abs c.args.worth ≤ 2 ^ 97 = taken_worth_small (search_of s) c.args.rank taken c.args.worth few c.requires.taken in
     let ranking = s.frame.now.ranking.items in
     let worths = s.frame.now.worths.items in
     let lt : c.args.rank - 1 < length ranking = omega (arith, c.if-rank-eq0.false, c.requires.rank) in
     let colour : c.index-colour.result.now ≡ get_or ranking (c.args.rank - 1) 0 = c.index-colour.ensures ∙ get_or_default ranking (c.args.rank - 1) c.index-colour.result.now 0 lt in
     let value : c.index.result.now ≡ worth_of worths (get_or ranking (c.args.rank - 1) 0) =
-    c.index.ensures ∙ ap (λ k. get_or worths k c.index.result.now) (c.from.ensures ∙ colour) ∙ get_or_default worths (get_or ranking (c.args.rank - 1) 0) c.index.result.now (pos 0) (rank_inside s (c.args.rank - 1) lt) in
-    let little : unsigned_abs (worth_of worths (get_or ranking (c.args.rank - 1) 0)) ≤ 2 ^ 94 = worth_small s (get_or ranking (c.args.rank - 1) 0) in
+    c.index.ensures ∙ ap (λ k. get_or worths k c.index.result.now) (c.from.ensures ∙ colour) ∙ get_or_default worths (get_or ranking (c.args.rank - 1) 0) c.index.result.now (pos 0) (rank_inside (search_of s) (c.args.rank - 1) lt) in
+    let little : unsigned_abs (worth_of worths (get_or ranking (c.args.rank - 1) 0)) ≤ 2 ^ 94 = worth_small (search_of s) (get_or ranking (c.args.rank - 1) 0) in
     omega (arith, ints, small, value, little)
 
 pub search_sets-requires : goal.search_sets-requires
@@ -69,19 +70,19 @@ search_sets-requires t c =
     let s = c.args.self.now in
     let taken = c.args.space.now.colours.items in
     let few : length taken ≤ 3 = omega (arith, c.requires.few, s.task.asked.limits.colour_limit.1) in
-    let small : unsigned_abs c.args.worth ≤ 2 ^ 97 = taken_worth_small s c.args.rank taken c.args.worth few c.requires.taken in
+    let small : unsigned_abs c.args.worth ≤ 2 ^ 97 = taken_worth_small (search_of s) c.args.rank taken c.args.worth few c.requires.taken in
     let ranking = s.frame.now.ranking.items in
     let worths = s.frame.now.worths.items in
     let lt : c.args.rank - 1 < length ranking = omega (arith, c.if-rank-eq0.false, c.requires.rank) in
     let colour : c.index-colour.result.now ≡ get_or ranking (c.args.rank - 1) 0 = c.index-colour.ensures ∙ get_or_default ranking (c.args.rank - 1) c.index-colour.result.now 0 lt in
     let value : c.index.result.now ≡ worth_of worths (get_or ranking (c.args.rank - 1) 0) =
-    c.index.ensures ∙ ap (λ k. get_or worths k c.index.result.now) (c.from.ensures ∙ colour) ∙ get_or_default worths (get_or ranking (c.args.rank - 1) 0) c.index.result.now (pos 0) (rank_inside s (c.args.rank - 1) lt) in
-    let little : unsigned_abs (worth_of worths (get_or ranking (c.args.rank - 1) 0)) ≤ 2 ^ 94 = worth_small s (get_or ranking (c.args.rank - 1) 0) in
+    c.index.ensures ∙ ap (λ k. get_or worths k c.index.result.now) (c.from.ensures ∙ colour) ∙ get_or_default worths (get_or ranking (c.args.rank - 1) 0) c.index.result.now (pos 0) (rank_inside (search_of s) (c.args.rank - 1) lt) in
+    let little : unsigned_abs (worth_of worths (get_or ranking (c.args.rank - 1) 0)) ≤ 2 ^ 94 = worth_small (search_of s) (get_or ranking (c.args.rank - 1) 0) in
     let richer : to_z w128 (of_z w128 (to_z w128 (of_z w128 c.args.worth) +ℤ to_z w128 (of_z w128 c.index.result.now))) ≡ c.args.worth +ℤ worth_of worths (get_or ranking (c.args.rank - 1) 0) = omega (arith, ints, small, value, little) in
     let pushed : c.push_reserved.new.self.items ≡ taken ++ get_or ranking (c.args.rank - 1) 0 ∷ [] = c.push_reserved.ensures.items ∙ ap (λ (x : ℕ). taken ++ x ∷ []) colour in
-    let more : AreTakenFrom s (c.args.rank - 1) c.push_reserved.new.self.items (to_z w128 (of_z w128 (to_z w128 (of_z w128 c.args.worth) +ℤ to_z w128 (of_z w128 c.index.result.now)))) =
-    subst (λ (xs : List ℕ). AreTakenFrom s (c.args.rank - 1) xs (to_z w128 (of_z w128 (to_z w128 (of_z w128 c.args.worth) +ℤ to_z w128 (of_z w128 c.index.result.now))))) (sym pushed)
-    (subst (AreTakenFrom s (c.args.rank - 1) (taken ++ get_or ranking (c.args.rank - 1) 0 ∷ [])) (sym richer) (next_taken s c.args.rank taken c.args.worth c.if-rank-eq0.false c.requires.taken)) in (
+    let more : AreTakenFrom (search_of s) (c.args.rank - 1) c.push_reserved.new.self.items (to_z w128 (of_z w128 (to_z w128 (of_z w128 c.args.worth) +ℤ to_z w128 (of_z w128 c.index.result.now)))) =
+    subst (λ (xs : List ℕ). AreTakenFrom (search_of s) (c.args.rank - 1) xs (to_z w128 (of_z w128 (to_z w128 (of_z w128 c.args.worth) +ℤ to_z w128 (of_z w128 c.index.result.now))))) (sym pushed)
+    (subst (AreTakenFrom (search_of s) (c.args.rank - 1) (taken ++ get_or ranking (c.args.rank - 1) 0 ∷ [])) (sym richer) (next_taken (search_of s) c.args.rank taken c.args.worth c.if-rank-eq0.false c.requires.taken)) in (
       search rules,
       (
         omega (arith, c.requires.rank),
@@ -94,7 +95,7 @@ search_sets-requires-2 t c =
     let s = c.args.self.now in
     let taken = c.args.space.now.colours.items in
     let few : length taken ≤ 3 = omega (arith, c.requires.few, s.task.asked.limits.colour_limit.1) in
-    let small : unsigned_abs c.args.worth ≤ 2 ^ 97 = taken_worth_small s c.args.rank taken c.args.worth few c.requires.taken in
+    let small : unsigned_abs c.args.worth ≤ 2 ^ 97 = taken_worth_small (search_of s) c.args.rank taken c.args.worth few c.requires.taken in
     let back : to_z w128 (of_z w128 c.args.worth) ≡ c.args.worth = omega (arith, ints, small) in
     let same : c.pop.new.self.items ≡ taken = popped taken c.search_sets.new.space.colours.items c.pop.new.self.items c.index-colour.result.now _ (c.search_sets.ensures.colours ∙ c.push_reserved.ensures.items) refl c.pop.ensures.rest in (
       search rules,
@@ -102,7 +103,7 @@ search_sets-requires-2 t c =
         omega (arith, c.requires.rank),
         (
           omega (arith, ap (λ (xs : List ℕ). length xs) same, c.requires.few),
-          (subst (λ (xs : List ℕ). AreTakenFrom s (c.args.rank - 1) xs (to_z w128 (of_z w128 c.args.worth))) (sym same) (subst (AreTakenFrom s (c.args.rank - 1) taken) (sym back) (next_left s c.args.rank taken c.args.worth c.if-rank-eq0.false c.requires.taken)), c.search_sets.ensures.chosen),
+          (subst (λ (xs : List ℕ). AreTakenFrom (search_of s) (c.args.rank - 1) xs (to_z w128 (of_z w128 c.args.worth))) (sym same) (subst (AreTakenFrom (search_of s) (c.args.rank - 1) taken) (sym back) (next_left (search_of s) c.args.rank taken c.args.worth c.if-rank-eq0.false c.requires.taken)), c.search_sets.ensures.chosen),
         ),
       ),
     )
@@ -112,7 +113,7 @@ returns-clause-improved t c =
     let s = c.args.self.now in
     let taken = c.args.space.now.colours.items in
     let few : length taken ≤ 3 = omega (arith, c.requires.few, s.task.asked.limits.colour_limit.1) in
-    let small : unsigned_abs c.args.worth ≤ 2 ^ 97 = taken_worth_small s c.args.rank taken c.args.worth few c.requires.taken in
+    let small : unsigned_abs c.args.worth ≤ 2 ^ 97 = taken_worth_small (search_of s) c.args.rank taken c.args.worth few c.requires.taken in
     let ranking = s.frame.now.ranking.items in
     let worths = s.frame.now.worths.items in
     let lt : c.args.rank - 1 < length ranking = omega (arith, c.if-rank-eq0.false, c.requires.rank) in
@@ -121,9 +122,9 @@ returns-clause-improved t c =
     let next : ℕ = get_or ranking (c.args.rank - 1) 0 in
     let pushed : c.push_reserved.new.self.items ≡ taken ++ next ∷ [] = c.push_reserved.ensures.items ∙ ap (λ (x : ℕ). taken ++ x ∷ []) colour in
     let same : c.pop.new.self.items ≡ taken = popped taken c.search_sets.new.space.colours.items c.pop.new.self.items c.index-colour.result.now _ (c.search_sets.ensures.colours ∙ c.push_reserved.ensures.items) refl c.pop.ensures.rest in
-    let first : IsImproved q c.args.picks.now.best c.search_sets.new.picks.best (IsOfSetIn s (taken ++ next ∷ []) (c.args.rank - 1) (c.args.left - 1)) =
-    subst (λ (xs : List ℕ). IsImproved q c.args.picks.now.best c.search_sets.new.picks.best (IsOfSetIn s xs (c.args.rank - 1) (c.args.left - 1))) pushed c.search_sets.ensures.improved in
-    let second : IsImproved q c.search_sets.new.picks.best c.search_sets-2.new.picks.best (IsOfSetIn s taken (c.args.rank - 1) c.args.left) =
-    subst (λ (xs : List ℕ). IsImproved q c.search_sets.new.picks.best c.search_sets-2.new.picks.best (IsOfSetIn s xs (c.args.rank - 1) c.args.left)) same c.search_sets-2.ensures.improved in
-    improved_both q c.args.picks.now.best c.search_sets.new.picks.best c.search_sets-2.new.picks.best (IsOfSetIn s (taken ++ next ∷ []) (c.args.rank - 1) (c.args.left - 1)) (IsOfSetIn s taken (c.args.rank - 1) c.args.left) (IsOfSetIn s taken c.args.rank c.args.left)
-    (λ d allowed set. set_next s taken c.args.rank c.args.left c.if-rank-eq0.false c.if-left-eq0.false d set) first second
+    let first : IsImproved q c.args.picks.now.best c.search_sets.new.picks.best (IsOfSetIn (search_of s) (taken ++ next ∷ []) (c.args.rank - 1) (c.args.left - 1)) =
+    subst (λ (xs : List ℕ). IsImproved q c.args.picks.now.best c.search_sets.new.picks.best (IsOfSetIn (search_of s) xs (c.args.rank - 1) (c.args.left - 1))) pushed c.search_sets.ensures.improved in
+    let second : IsImproved q c.search_sets.new.picks.best c.search_sets-2.new.picks.best (IsOfSetIn (search_of s) taken (c.args.rank - 1) c.args.left) =
+    subst (λ (xs : List ℕ). IsImproved q c.search_sets.new.picks.best c.search_sets-2.new.picks.best (IsOfSetIn (search_of s) xs (c.args.rank - 1) c.args.left)) same c.search_sets-2.ensures.improved in
+    improved_both q c.args.picks.now.best c.search_sets.new.picks.best c.search_sets-2.new.picks.best (IsOfSetIn (search_of s) (taken ++ next ∷ []) (c.args.rank - 1) (c.args.left - 1)) (IsOfSetIn (search_of s) taken (c.args.rank - 1) c.args.left) (IsOfSetIn (search_of s) taken c.args.rank c.args.left)
+    (λ d allowed set. set_next (search_of s) taken c.args.rank c.args.left c.if-rank-eq0.false c.if-left-eq0.false d set) first second

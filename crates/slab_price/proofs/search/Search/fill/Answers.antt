@@ -1,5 +1,6 @@
-use Rattle.slab_price.proofs.Gathering.{gathered_inside}
+use Rattle.pricing_laws.proofs.Gathering.{gathered_inside}
+use Rattle.slab_price.specs.Searches.{search_of}
 use Rattle.slab_price.proofs.search.Search.fill.Goals as goal
 
 pub tabulate-requires : goal.tabulate-requires
-tabulate-requires c = record { heads = gathered_inside c.args.self.now c.args.colours.now c.gather.new.queue.heads.items c.gather.ensures }
+tabulate-requires c = record { heads = gathered_inside (search_of c.args.self.now) c.args.colours.now c.gather.new.queue.heads.items c.gather.ensures }

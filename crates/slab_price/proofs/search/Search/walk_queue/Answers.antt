@@ -4,7 +4,7 @@ use Rattle.pricing_laws.specs.Colours.{AreOf}
 use Rattle.pricing_laws.specs.Parts.{left_of}
 use Rattle.pricing_laws.proofs.Colours.{column_choice}
 use Rattle.slab_price.specs.Bests.{IsImproved}
-use Rattle.slab_price.specs.Searches.{whole}
+use Rattle.pricing_laws.specs.Searches.{whole}
 use Rattle.slab_price.specs.Tasks.{problem_of}
 use Rattle.slab_price.proofs.Improving.{improved_less}
 use Rattle.slab_price.proofs.search.Search.walk_queue.Goals as goal

@@ -1,5 +1,5 @@
 use Rattle.std.proofs.Common.{◌≡◌, ℕ, ◌<◌, length, get_or}
-use Rattle.slab_price.specs.Frames.{colour_key}
+use Rattle.pricing_laws.specs.Frames.{colour_key}
 use Rattle.slab_price.proofs.task.Task.colour_keys.Given as goal
 
 abbrev pub invariant-loop-order : goal.invariant-loop-order

@@ -1,8 +1,8 @@
 use Rattle.std.proofs.Common.{◌≡◌, length}
-use Rattle.slab_price.specs.Bests.{IsOnNew, IsOnYard}
+use Rattle.pricing_laws.specs.Packs.{IsOnNew, IsOnYard}
 use Rattle.slab_price.specs.Tasks.{problem_of}
 use Rattle.slab_price.proofs.Improving.{improved_both}
-use Rattle.slab_price.proofs.Packs.{on_some_slab}
+use Rattle.pricing_laws.proofs.Packs.{on_some_slab}
 use Rattle.slab_price.proofs.task.Task.offer.Goals as goal
 
 pub returns : goal.returns

@@ -1,7 +1,7 @@
 use Rattle.std.proofs.Common.{ℕ, List, subst}
 use Rattle.mill_model.specs.LeastSizes.{IsLeastSize}
 use Rattle.slab_price.specs.Tasks.{problem_of}
-use Rattle.slab_price.proofs.Packs.{pack_new}
+use Rattle.pricing_laws.proofs.Packs.{pack_new}
 use Rattle.slab_price.proofs.task.Task.offer_new.Goals as goal
 
 pub returns-in-Some : goal.returns-in-Some

@@ -7,10 +7,11 @@ use Rattle.mill_model.specs.Decisions.{column_agrees}
 use Rattle.pricing_laws.specs.Gains.{cost_of}
 use Rattle.pricing_laws.proofs.Parts.{below_rising, distinct_below, distinct_rising}
 use Rattle.pricing_laws.proofs.Problems.{exceed_none}
-use Rattle.slab_price.specs.Bests.{IsColumn}
+use Rattle.pricing_laws.specs.Packs.{IsColumn}
 use Rattle.slab_price.specs.Tasks.{problem_of}
 use Rattle.slab_price.proofs.Improving.{improved_same}
-use Rattle.slab_price.proofs.Packs.{best_sign, pack_found, pack_on}
+use Rattle.pricing_laws.proofs.Packs.{pack_on}
+use Rattle.slab_price.proofs.Packs.{best_sign, pack_found}
 use Rattle.slab_price.proofs.task.Task.offer_on.Goals.{then-has_barred-via-then-has_barred, then-has_barred-via-else-has_barred+then-not-allows}
 use Rattle.slab_price.proofs.task.Task.offer_on.Goals as goal
 

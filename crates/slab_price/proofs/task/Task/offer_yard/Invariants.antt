@@ -1,4 +1,5 @@
-use Rattle.slab_price.specs.Bests.{IsImproved, IsOnYard}
+use Rattle.pricing_laws.specs.Packs.{IsOnYard}
+use Rattle.slab_price.specs.Bests.{IsImproved}
 use Rattle.slab_price.specs.Tasks.{problem_of}
 use Rattle.slab_price.proofs.task.Task.offer_yard.Given as goal
 

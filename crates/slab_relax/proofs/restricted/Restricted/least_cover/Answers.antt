@@ -1,5 +1,4 @@
 use Rattle.std.proofs.Common.{◌≡◌, ℤ, All, List, sym, subst, ◌∙◌}
-use Rattle.std.proofs.lemmas.Result.{IfOk-weaker}
 use Rattle.mill_model.specs.Mill.{Mill}
 use Rattle.mill_model.specs.Columns.{IsLegalColumn}
 use Rattle.slab_frac.specs.Fraction.{Fraction}
@@ -17,8 +16,7 @@ returns-in-Best-clause-least c none =
     subst (λ (costs : List ℤ). IsLeast c.args.self.now.master costs c.in-Best.x c.in-Best._y) (c.deref.ensures.value ∙ c.in_ok-losses.ensures.value) best in
     let of : HasLeastLoss c.args.node.now.mill.now c.args.node.now.limits c.args.node.now.decisions.now.list c.args.pool.now.columns (used_of c.args.self.now.ids.items c.in-Best.x) =
     least_loss c.args.node.now.mill.now c.args.node.now.limits c.args.node.now.decisions.now.list c.args.pool.now.columns c.args.self.now.ids.items c.args.self.now.master c.in-Best.x c.in-Best._y c.requires.restricted.numbers c.requires.restricted.given least in
-    IfOk-weaker c.cover.result (λ cover. cover ≡ used_of c.args.self.now.ids.items c.list.result.now) (HasLeastLoss c.args.node.now.mill.now c.args.node.now.limits c.args.node.now.decisions.now.list c.args.pool.now.columns)
-    (λ cover is. subst (HasLeastLoss c.args.node.now.mill.now c.args.node.now.limits c.args.node.now.decisions.now.list c.args.pool.now.columns) (sym is) (subst (λ (xs : List Fraction). HasLeastLoss c.args.node.now.mill.now c.args.node.now.limits c.args.node.now.decisions.now.list c.args.pool.now.columns (used_of c.args.self.now.ids.items xs)) (sym c.list.ensures) of)) c.cover.ensures.value
+    subst (HasLeastLoss c.args.node.now.mill.now c.args.node.now.limits c.args.node.now.decisions.now.list c.args.pool.now.columns) (sym c.in_ok-lesser-in-Best.ensures.value) (subst (λ (xs : List Fraction). HasLeastLoss c.args.node.now.mill.now c.args.node.now.limits c.args.node.now.decisions.now.list c.args.pool.now.columns (used_of c.args.self.now.ids.items xs)) (sym c.list.ensures) of)
 
 pub unreachable-requires : goal.unreachable-requires
 unreachable-requires c =

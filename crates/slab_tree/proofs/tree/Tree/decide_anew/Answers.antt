@@ -21,7 +21,7 @@ use Rattle.slab_tree.proofs.BareMarks.{refuted_tallied, refuted_room, kept_talli
 use Rattle.slab_tree.proofs.Gains.{close_causes}
 use Rattle.slab_tree.proofs.Rewriting.{refuted_moves, kept_moves, split_asks, no_plan_left}
 use Rattle.slab_tree.proofs.Standing.{path_open}
-use Rattle.slab_tree.proofs.Tallies.{cause_later, no_less_trans}
+use Rattle.slab_relax.proofs.Counting.{cause_earlier, no_less_trans}
 use Rattle.slab_tree.proofs.tree.Tree.decide_anew.Goals as goal
 
 -- the turn's promise, at the tree's limits and path
@@ -89,7 +89,7 @@ returns-in-Spread-clause-room c =
 
 pub returns-in-Spread-clause-causes : goal.returns-in-Spread-clause-causes
 returns-in-Spread-clause-causes c =
-    let cause : is_bare c.in_ok-shown-in-Spread.shown ≡ true → HasCause c.args.tally.now c.mark_of.new.tally = λ e. cause_later c.args.tally.now c.turn.new.tally c.mark_of.new.tally c.in_ok-prices.ensures.counters (c.in_ok-shown-in-Spread.ensures.cause e) in
+    let cause : is_bare c.in_ok-shown-in-Spread.shown ≡ true → HasCause c.args.tally.now c.mark_of.new.tally = λ e. cause_earlier c.args.tally.now c.turn.new.tally c.mark_of.new.tally c.in_ok-prices.ensures.counters (c.in_ok-shown-in-Spread.ensures.cause e) in
     on_ok_weaker c.keep.result (kept_causes c.args.self.now c.keep.new.self c.args.tally.now c.mark_of.new.tally c.args.ask c.in_ok-shown-in-Spread.shown (no_less_trans c.args.tally.now c.turn.new.tally c.mark_of.new.tally c.in_ok-prices.ensures.counters c.in_ok-shown-in-Spread.ensures.counters) cause) c.keep.ensures.ok
 
 -- ---- a bare split

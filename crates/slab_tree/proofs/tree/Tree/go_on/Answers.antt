@@ -15,7 +15,7 @@ use Rattle.slab_tree.proofs.Counts.{raised_trans, raised_none, raised_same}
 use Rattle.slab_tree.proofs.Endings.{few_running, ending_of, done_answers, IsHandedOut, IsEnding}
 use Rattle.slab_tree.proofs.Moves.{later_trans, later_refl}
 use Rattle.slab_tree.proofs.Standing.{path_open, at_root}
-use Rattle.slab_tree.proofs.Tallies.{no_less_refl, no_less_trans, causes_same, causes_trans, cause_later}
+use Rattle.slab_relax.proofs.Counting.{no_less_same, no_less_trans, causes_same, causes_trans, cause_earlier}
 use Rattle.slab_tree.proofs.tree.Tree.go_on.Goals as goal
 
 -- the step's answer, at the limit of the whole run
@@ -28,10 +28,20 @@ root_of m t run none = at_root m (HoldsCover m (opening_of t)) (limits_of t) t.p
 one_of : (m : Mill) (t : Search) → IsRunning m t → t.nodes ≡ [] → t.opened ≡ 1
 one_of m t run none = omega (arith, run.opened, ap (λ (ns : List Node). length ns) none, ap waiting (root_of m t run none))
 
+on_err : {A E : Type 0} (r : Result A E) (P : Type 0) → P → OnErr r P
+on_err (Ok x) P p = tt
+on_err (Err e) P p = p
+
 -- ---- before the loop
 
 pub returns-in_err-guide-clause-few : goal.returns-in_err-guide-clause-few
 returns-in_err-guide-clause-few c = few_running c.args.mill.now c.args.self.now c.requires.tree
+
+pub returns-in_err-guide-clause-later : goal.returns-in_err-guide-clause-later
+returns-in_err-guide-clause-later c = on_err c.from_residual.result (IsLater c.args.mill.now c.args.self.now c.args.self.now) (later_refl c.args.mill.now c.args.self.now)
+
+pub returns-in_err-decisions-clause-later : goal.returns-in_err-decisions-clause-later
+returns-in_err-decisions-clause-later c = on_err c.from_residual-in_err-decisions.result (IsLater c.args.mill.now c.args.self.now c.args.self.now) (later_refl c.args.mill.now c.args.self.now)
 
 pub returns-in_err-decisions-clause-few : goal.returns-in_err-decisions-clause-few
 returns-in_err-decisions-clause-few c = few_running c.args.mill.now c.args.self.now c.requires.tree
@@ -70,12 +80,11 @@ nodes-preserved c =
 pub returns-in_err-step-clause-few : goal.returns-in_err-step-clause-few
 returns-in_err-step-clause-few c = subst (λ (t : Search). t.opened < most_nodes c.args.mill.now) (sym c.in_err-step.ensures.err) (few_running c.args.mill.now c.nodes.self c.nodes.invariant.tree)
 
-on_err : {A E : Type 0} (r : Result A E) (P : Type 0) → P → OnErr r P
-on_err (Ok x) P p = tt
-on_err (Err e) P p = p
-
 pub returns-in_err-step-clause-memory : goal.returns-in_err-step-clause-memory
 returns-in_err-step-clause-memory c = on_err c.from_residual-in_err-step.result (IsRunning c.args.mill.now c.step.new.self) (subst (λ (t : Search). IsRunning c.args.mill.now t) (sym c.in_err-step.ensures.err) c.nodes.invariant.tree)
+
+pub returns-in_err-step-clause-later : goal.returns-in_err-step-clause-later
+returns-in_err-step-clause-later c = on_err c.from_residual-in_err-step.result (IsLater c.args.mill.now c.args.self.now c.step.new.self) (subst (λ (t : Search). IsLater c.args.mill.now c.args.self.now t) (sym c.in_err-step.ensures.err) c.nodes.invariant.later)
 
 -- ---- the end
 
@@ -129,4 +138,4 @@ returns-then-not-branch-clause-causes c =
 pub returns-then-not-branch-clause-bare_end : goal.returns-then-not-branch-clause-bare_end
 returns-then-not-branch-clause-bare_end c = λ bare.
     let kept : IsHandedOut c.step.new.self c.finish.new.self = (ends c.args.mill.now c.nodes.nodes.limit c.args.nodes.now.limit c.args.self.now c.nodes.self c.step.new.self c.finish.new.self c.in_ok-step.field-0 c.finish.result c.nodes.invariant.limit c.if-not-branch.true c.requires.tree.search.best c.nodes.invariant.later c.in_ok-step.ensures.ok c.finish.ensures).kept in
-    cause_later c.args.tally.now c.nodes.tally c.step.new.tally c.nodes.invariant.counters (c.in_ok-step.ensures.bare_end (sym kept.phase ∙ bare))
+    cause_earlier c.args.tally.now c.nodes.tally c.step.new.tally c.nodes.invariant.counters (c.in_ok-step.ensures.bare_end (sym kept.phase ∙ bare))

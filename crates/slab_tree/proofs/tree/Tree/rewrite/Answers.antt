@@ -12,7 +12,7 @@ use Rattle.slab_tree.proofs.BareMarks.{leaf_tallied, leaf_room, kept_tallied, ke
 use Rattle.slab_tree.proofs.Gains.{close_causes}
 use Rattle.slab_tree.proofs.Rewriting.{leaf_moves, kept_moves, split_asks, marked_at}
 use Rattle.slab_tree.proofs.Standing.{path_open}
-use Rattle.slab_tree.proofs.Tallies.{causes_same, no_less_refl}
+use Rattle.slab_relax.proofs.Counting.{causes_same, no_less_same}
 use Rattle.slab_tree.proofs.tree.Tree.rewrite.Goals as goal
 
 pub turn_back-requires : goal.turn_back-requires
@@ -36,7 +36,7 @@ returns-in_ok-turn_back-in-Closed-clause-room c = λ room.
 
 pub returns-in_ok-turn_back-in-Closed-clause-causes : goal.returns-in_ok-turn_back-in-Closed-clause-causes
 returns-in_ok-turn_back-in-Closed-clause-causes c =
-    close_causes c.args.self.now c.turn_back.new.self c.args.tally.now c.args.tally.now (no_less_refl c.args.tally.now) c.turn_back.result c.in-Closed.prices c.turn_back.ensures.ok c.turn_back.ensures.err
+    close_causes c.args.self.now c.turn_back.new.self c.args.tally.now c.args.tally.now (no_less_same c.args.tally.now) c.turn_back.result c.in-Closed.prices c.turn_back.ensures.ok c.turn_back.ensures.err
 
 -- ---- a mark that still shows
 
@@ -77,7 +77,7 @@ pub returns-in-Branched-clause-causes : goal.returns-in-Branched-clause-causes
 returns-in-Branched-clause-causes c =
     let still : StillShows c.args.mill.now c.args.self.now c.in-Branched.mark = c.still_shows.ensures c.if-still_shows.true in
     let never : is_bare c.in-Branched.mark ≡ true → HasCause c.args.tally.now c.args.tally.now = λ e. absurd (true_false (sym e ∙ still.covered)) in
-    on_ok_weaker c.keep.result (kept_causes c.args.self.now c.keep.new.self c.args.tally.now c.args.tally.now c.in-Branched.ask c.in-Branched.mark (no_less_refl c.args.tally.now) never) c.keep.ensures.ok
+    on_ok_weaker c.keep.result (kept_causes c.args.self.now c.keep.new.self c.args.tally.now c.args.tally.now c.in-Branched.ask c.in-Branched.mark (no_less_same c.args.tally.now) never) c.keep.ensures.ok
   where
     true_false : true ≡ false → ⊥
     true_false e = cc

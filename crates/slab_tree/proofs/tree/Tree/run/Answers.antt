@@ -1,5 +1,5 @@
 use Rattle.std.proofs.Common.{◌≡◌, ◌∙◌, ℕ, List, [], sym, subst, arith}
-use Rattle.std.proofs.lemmas.Result.{IfOk-weaker}
+use Rattle.std.proofs.lemmas.Result.{IfOk-weaker, on_err_weaker}
 use Rattle.mill_model.specs.declared.limits.Limits.{Limits}
 use Rattle.mill_model.specs.Plain.{IsPlainlyRefuted}
 use Rattle.slab_relax.specs.Tallies.{HaveCauses}
@@ -7,6 +7,7 @@ use Rattle.slab_tree.specs.declared.node.Node.{Node}
 use Rattle.slab_tree.specs.Searches.{IsEnded, bare_count}
 use Rattle.slab_tree.specs.Stepping.{HasRoot}
 use Rattle.slab_tree.proofs.Counts.{raised_trans}
+use Rattle.slab_tree.proofs.Moves.{later_trans, same_later}
 use Rattle.slab_tree.proofs.Starting.{has_root, ended_from}
 use Rattle.slab_tree.proofs.tree.Tree.run.Goals as goal
 
@@ -23,6 +24,7 @@ returns c =
           (λ e h. subst (λ (k : ℕ). IsEnded c.args.mill.now k c.args.self.now c.go_on.new.self e) root.limit (ended_from c.args.mill.now c.start.new.nodes.limit c.args.self.now c.start.new.self c.go_on.new.self root.count root.opening root.best e h))
           c.go_on.ensures.ended;
       memory = c.go_on.ensures.memory;
+      later = on_err_weaker c.go_on.result (later_trans c.args.mill.now c.args.self.now c.start.new.self c.go_on.new.self (same_later c.args.mill.now c.args.self.now c.start.new.self root.count root.opening root.loss root.best)) c.go_on.ensures.later;
       question = record { count = c.go_on.ensures.question.count ∙ root.count; opening = c.go_on.ensures.question.opening ∙ root.opening };
       plain = λ refuted none. c.go_on.ensures.plain (subst (λ (l : Limits). IsPlainlyRefuted c.args.mill.now l) (λ i. record { loss = sym root.loss i; count = sym root.count i }) refuted) (root.nodes ∙ none);
       one = λ refuted none. c.go_on.ensures.one (subst (λ (l : Limits). IsPlainlyRefuted c.args.mill.now l) (λ i. record { loss = sym root.loss i; count = sym root.count i }) refuted) (root.nodes ∙ none);

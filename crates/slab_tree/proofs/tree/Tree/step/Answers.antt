@@ -22,7 +22,7 @@ use Rattle.slab_tree.specs.Marking.{HoldsCover}
 use Rattle.slab_tree.proofs.Standing.{path_open}
 use Rattle.slab_tree.proofs.Moves.{close_step, close_root, split_step, lower_step}
 use Rattle.slab_tree.proofs.Finds.{box_found}
-use Rattle.slab_tree.proofs.Tallies.{causes_same, no_less_trans}
+use Rattle.slab_relax.proofs.Counting.{causes_same, no_less_trans}
 use Rattle.slab_tree.proofs.Gains.{close_causes, split_causes, close_counts, split_counts}
 use Rattle.slab_tree.proofs.tree.Tree.step.Goals as goal
 

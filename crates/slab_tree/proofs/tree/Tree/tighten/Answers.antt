@@ -8,7 +8,7 @@ use Rattle.slab_tree.specs.Tightening.{MayCountBare}
 use Rattle.slab_tree.specs.declared.tree.Phase.TheVariants.{Running}
 use Rattle.slab_tree.proofs.BareMarks.{tallied_trans, kept_trans}
 use Rattle.slab_tree.proofs.Rewriting.{begins_anew, walks_on, ends_anew, same_trans, same_limits, tightened}
-use Rattle.slab_tree.proofs.Tallies.{no_less_refl, no_less_trans, causes_same, causes_trans}
+use Rattle.slab_relax.proofs.Counting.{no_less_same, no_less_trans, causes_same, causes_trans}
 use Rattle.slab_tree.proofs.tree.Tree.tighten.Goals as goal
 
 -- the tree to be written anew, and the nodes that the old one had
@@ -48,9 +48,9 @@ loop-node-init c =
       kept = record { limit = refl; opened = refl; rises = omega arith };
       room = h.3;
       tallied = h.4;
-      causes = causes_same 0 (bare_count c.begin_again-tree.result.0.nodes) c.args.tally.now c.args.tally.now h.5 (no_less_refl c.args.tally.now);
-      bare = causes_same c.args.nodes.now.bare c.args.nodes.now.bare c.args.tally.now c.args.tally.now refl (no_less_refl c.args.tally.now);
-      counters = no_less_refl c.args.tally.now;
+      causes = causes_same 0 (bare_count c.begin_again-tree.result.0.nodes) c.args.tally.now c.args.tally.now h.5 (no_less_same c.args.tally.now);
+      bare = causes_same c.args.nodes.now.bare c.args.nodes.now.bare c.args.tally.now c.args.tally.now refl (no_less_same c.args.tally.now);
+      counters = no_less_same c.args.tally.now;
     }
 
 pub rewrite-requires-clause-walk : goal.rewrite-requires-clause-walk

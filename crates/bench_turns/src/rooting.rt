@@ -1,0 +1,83 @@
+//! The turn of a root, which no decision precedes.
+
+ghost use Rattle.std.specs.Prelude.{◌≡◌, length, IfOk};
+ghost use Rattle.mill_model.specs.Limits.{number_of};
+ghost use Rattle.slab_master.specs.Given.{IsSmall};
+
+use crate::work::Work;
+use loss_table::LossTable;
+use mill_model::{Limits, Mill};
+use slab_columns::Pool;
+use slab_decide::Decisions;
+use slab_node::{Tally, Turned, turn};
+use std::alloc::{AllocError, Global};
+
+/// What the last of the turns came to.
+#[derive(Drop)]
+pub struct Done {
+    pub answer: &'static str,
+    /// How many columns joined the pool, and one round more.
+    pub rounds: usize,
+    pub tally: Tally,
+}
+
+// A limit of a root.
+fn limit_of(limit: Option<i32>) -> Option<i64>
+    ensures { IsSmall (number_of result) }
+{
+    match limit {
+        Some(number) => Some(i64::from(number)),
+        None => None,
+    }
+}
+
+// The name of an answer.
+fn name_of(turned: &Turned) -> &'static str {
+    match turned {
+        Turned::Refuted(_prices) => "refuted",
+        Turned::InBox(_plan) => "plan",
+        Turned::Spread(_cover, _ask) => "spread",
+        Turned::Bare(_ask) => "bare",
+    }
+}
+
+// One turn on a new pool.
+fn turn_once(
+    alloc: Global,
+    mill: &Mill,
+    table: &LossTable,
+    decisions: &Decisions,
+    limits: Limits,
+) -> Result<Done, AllocError>
+    requires sizes { table.now ≡ mill.now.sizes }
+    requires orders { decisions.now.orders ≡ length mill.now.orders }
+    requires yard { decisions.now.yard ≡ length mill.now.yard }
+    requires loss { IsSmall (number_of limits.loss) }
+    requires count { IsSmall (number_of limits.count) }
+{
+    let mut pool = Pool::new(alloc, mill)?;
+    let mut tally = Tally::new();
+    let turned = turn(alloc, mill, table, decisions, limits, &mut pool, &mut tally)?;
+    Ok(Done {
+        answer: name_of(&turned),
+        rounds: pool.len().saturating_add(1),
+        tally,
+    })
+}
+
+/// Takes the turn of a mill's root so often, each time with a new pool.
+pub fn turn_root(alloc: Global, mill: &Mill, work: &Work<'_>) -> Result<Done, AllocError> {
+    let table = LossTable::new(alloc, mill)?;
+    let orders = mill.orders().len() as u16;
+    let yard = mill.yard().len() as u16;
+    let decisions = Decisions::new(alloc, orders, yard)?;
+    let limits = Limits {
+        loss: limit_of(work.loss),
+        count: limit_of(work.count),
+    };
+    let mut done = turn_once(alloc, mill, &table, &decisions, limits)?;
+    for _again in 1..work.times {
+        done = turn_once(alloc, mill, &table, &decisions, limits)?;
+    }
+    Ok(done)
+}

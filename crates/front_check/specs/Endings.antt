@@ -1,0 +1,106 @@
+-- What the parts of a run answer.
+use Rattle.std.specs.Prelude.{◌≡◌, ◌≢◌, ◌⊎◌, ◌↔◌, ℕ, ◌≤◌, Bool, true, false, IsTrue, List, length, ⊤, Option, Some, None, Result, Ok, Err, IfErr}
+use Rattle.std.specs.String.{string_bytes}
+use Rattle.std.specs.FinMap.{get}
+use Rattle.slab_counter.specs.Counter.{Rose}
+use Rattle.slab_desk.specs.Desk.{Told, Files, Steps, WhereTold, HasFile, HasLongFile, ChangesLeft, Says, WithPrefix}
+use Rattle.mill_model.specs.Mill.{Mill, Yard, with_yard}
+use Rattle.mill_read.specs.declared.fault.TextFault.{TextFault}
+use Rattle.mill_read.specs.declared.fault.TextError.{TextError}
+use Rattle.mill_read.specs.declared.fault.TextError.TheVariants.{Text as TextOf}
+use Rattle.mill_read.specs.OrderFile.{order_file}
+use Rattle.mill_read.specs.YardFile.{yard_file}
+use Rattle.cert_rules.specs.Verdicts.{Verdict, IsVerdict}
+use Rattle.front_check.specs.declared.ending.Ending.{Ending}
+use Rattle.front_check.specs.declared.ending.Stop.{Stop}
+use Rattle.front_check.specs.declared.ending.Stop.TheVariants.{Refused, Fault, Memory}
+use Rattle.front_check.specs.Words.{MillWords, CheckWords, Parsed}
+use Rattle.front_check.specs.declared.texts.Source.{Source}
+use Rattle.front_check.specs.Texts.{long_text, fault_text}
+use Rattle.front_check.specs.Outcomes.{Owing}
+use Rattle.front_check.specs.Owed.{IsVerdictStatus, most_bytes, with_colours, StopsSoon}
+
+-- ---- files
+
+-- the file is there, isn't too long, and has this value
+abbrev pub HasValue : {A : Type 0} → (List ℕ → Result A TextFault) → List ℕ → A → Files → Type 0
+HasValue reading name value files = (bytes : List ℕ) × (get files name ≡ Some bytes) × (length bytes ≤ most_bytes) × (reading bytes ≡ Ok value)
+
+abbrev pub HasYard : Option (List ℕ) → Mill → Mill → Files → Type 0
+HasYard None bare mill files = mill ≡ bare
+HasYard (Some name) bare mill files = (yard : Yard) × HasValue (yard_file (length bare.orders)) name yard files × (mill ≡ with_yard bare yard)
+
+-- the mill of the order file, with the yard of the yard file, and the colour limit of the words
+pub record HasMill (words : MillWords) (mill : Mill) (files : Files) : Type 0 where
+  pub bare : Mill
+  pub with_its_yard : Mill
+  pub orders : HasValue order_file words.orders bare files
+  pub yard : HasYard words.yard bare with_its_yard files
+  pub colours : mill ≡ with_colours words.colours with_its_yard
+
+-- the file is there, and this is the verdict on its bytes
+abbrev pub HasVerdict : Mill → List ℕ → Verdict → Files → Type 0
+HasVerdict m name verdict files = (bytes : List ℕ) × (get files name ≡ Some bytes) × IsVerdict m bytes verdict
+
+-- the file is there, and its reading stopped at the first bad line
+abbrev pub ReadsToBad : Mill → List ℕ → Told → Told → Type 0
+ReadsToBad m name old new = (bytes : List ℕ) × HasFile name bytes old × StopsSoon m bytes new.left
+
+-- words that can't stand open no file; else, after a verdict, the reading of the certificate stopped at the first bad line
+abbrev pub LeavesRest : Parsed CheckWords → ℕ → Told → Told → Type 0
+LeavesRest (Err number) status old new = new.left ≡ old.left
+LeavesRest (Ok words) status old new = IsVerdictStatus status → (m : Mill) × HasMill words.mill m old.files × ReadsToBad m words.cert old new
+
+-- ---- stops
+
+-- a refusal's text is owed with status 2, and a fault has its cause
+abbrev pub IsStop : (Files → Owing) → Option Told → ℕ → ℕ → Stop → Type 0
+IsStop owes told before now (Refused text) = WhereTold told (λ t. owes t.files 2 (string_bytes text))
+IsStop owes told before now Fault = Rose before now
+IsStop owes told before now Memory = ⊤
+
+-- the answer is that the outside failed
+abbrev pub is_fault : {A : Type 0} → Result A Stop → Bool
+is_fault (Ok value) = false
+is_fault (Err (Refused text)) = false
+is_fault (Err Fault) = true
+is_fault (Err Memory) = false
+
+-- what a part of a run that reads files did: it stopped only for such a reason, changed nothing but what is left to read, and
+-- the count of faults changed only where the answer is a fault
+pub record HasOnlyRead {A : Type 0} (IsReason : Option Told → ℕ → ℕ → Stop → Type 0) (old new : Option Told) (before now : ℕ) (result : Result A Stop) : Type 0 where
+  pub stop : IfErr result (IsReason old before now)
+  pub left : Steps old new ChangesLeft
+  pub later : before ≤ now
+  pub kept : is_fault result ≡ false → now ≡ before
+
+-- a run ends with 5 exactly where the desk's last call failed, and the count of faults explains it
+pub record EndsByFaults (before now : ℕ) (failed : Bool) (status : ℕ) : Type 0 where
+  pub fault : status ≡ 5 → Rose before now
+  pub later : before ≤ now
+  pub kept : status ≢ 5 → now ≡ before
+  pub stopped : (status ≡ 5) ↔ IsTrue failed
+
+-- ---- answers
+
+-- a text is owed with its status
+abbrev pub IsEnding : (Files → Owing) → Option Told → Ending → Type 0
+IsEnding owes told ending = WhereTold told (λ t. owes t.files ending.status (string_bytes ending.text))
+
+-- The text was said, and the answer is its status, or a prefix of it was said, where the outside failed.
+pub record Finishes (code : ℕ) (text : List ℕ) (old new : Option Told) (result : ℕ) : Type 0 where
+  pub status : (result ≡ code) ⊎ (result ≡ 5)
+  pub given : result ≢ 5 → Steps old new (Says text)
+  pub short : result ≡ 5 → Steps old new (WithPrefix Says text)
+
+-- the file is too long
+abbrev pub IsTooLong : Source → List ℕ → Option Told → ℕ → ℕ → Stop → Type 0
+IsTooLong source name told before now (Refused text) = (string_bytes text ≡ long_text source) × WhereTold told (HasLongFile name most_bytes)
+IsTooLong source name told before now Fault = Rose before now
+IsTooLong source name told before now Memory = ⊤
+
+-- what reading a text answered
+abbrev pub IsRefusal : Source → TextError → Stop → Type 0
+IsRefusal source error (Refused text) = (fault : TextFault) × (error ≡ TextOf fault) × (string_bytes text ≡ fault_text source fault)
+IsRefusal source error Fault = ⊥
+IsRefusal source error Memory = ⊤

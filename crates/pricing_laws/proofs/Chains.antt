@@ -1,0 +1,23 @@
+-- Numbers that go by keys.
+use Rattle.std.proofs.Common.{◌≡◌, ℕ, ◌+◌, ◌<◌, get_or, sym, subst, ◌∙◌, arith}
+use Rattle.pricing_laws.specs.Chains.{AreChains, Chains, IsNextOf}
+
+-- the same keys, told otherwise
+module _ (key_of other_of : ℕ → ℕ) (numbers : ℕ) (same : (i : ℕ) → i < numbers → key_of i ≡ other_of i) where
+  next_told : (key from at : ℕ) → IsNextOf key_of numbers key from at → IsNextOf other_of numbers key from at
+  next_told key from at n = record {
+    later = n.later;
+    within = n.within;
+    passed = λ i h k e. n.passed i h k (same i (omega (arith, k, n.within)) ∙ e);
+    here = λ h. sym (same at h) ∙ n.here h;
+  }
+
+  pub chains_told : (count : ℕ) (chains : Chains) → AreChains key_of numbers count chains → AreChains other_of numbers count chains
+  chains_told count chains are = record {
+    keys = are.keys;
+    chained = record {
+      size = are.chained.size;
+      first_of = λ key h. next_told key 0 (get_or chains.first key 0) (are.chained.first_of key h);
+      next_of = λ i l h. subst (λ (key : ℕ). IsNextOf other_of numbers key (i + 1) (get_or chains.next i 0)) (same i h) (next_told (key_of i) (i + 1) (get_or chains.next i 0) (are.chained.next_of i l h));
+    };
+  }
