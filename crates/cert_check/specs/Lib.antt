@@ -11,3 +11,4 @@ pub mod Held
 pub mod Endings
 pub mod Building
 pub mod Cuts
+pub mod Rebuilt

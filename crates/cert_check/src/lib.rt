@@ -8,6 +8,7 @@
 mod checker;
 mod ending;
 mod failure;
+mod laws;
 mod line_why;
 mod machine;
 mod phase;
@@ -20,6 +21,7 @@ mod verdict;
 
 pub use checker::{Checker, check};
 pub use failure::Failure;
+pub use laws::lines_build_back;
 pub use line_why::{LineWhy, OrderList};
 pub use points::Points;
 pub use verdict::{CertRead, CutRead, Verdict};
