@@ -40,7 +40,7 @@ use Rattle.cert_text.proofs.Plans.{nothing, column_at}
 use Rattle.cert_rules.proofs.LeafLines.{numbers_of}
 use Rattle.cert_rules.proofs.SumLines.{few_new, small_loss}
 use Rattle.cert_check.specs.Building.{Growing, Built, Current, seedling, nothing_built, empty_plan, add_slab, built_sums, closed, build, build_all}
-use Rattle.cert_check.specs.Rebuilt.{LinesBuildBack, built_of, rest_tree, is_whole, outline_of}
+use Rattle.cert_check.specs.Rebuilt.{LinesBuildBack, built_of}
 use Rattle.cert_check.proofs.Slabbing.{index16_number, natural16_small, loss_small, orders16_rising, size_small, add_slabs, slabs_make_plan}
 
 -- ---- lists
@@ -71,9 +71,9 @@ module _ (m : Mill) (limited : IsInLimits m) where
 
   -- ---- trees
 
-  module _ (version : Version) (points : List Point) (current : Current) (whole : Bool) where
+  module _ (version : Version) (points : List Point) (current : Current) where
     abbrev in_tree : List Step → List Mark → Mark → Built
-    in_tree steps marks next = record { version = version; points = points; current = current; tree = record { steps = steps; marks = marks; next = next }; whole = whole; outline = None }
+    in_tree steps marks next = record { version = version; points = points; current = current; tree = record { steps = steps; marks = marks; next = next }; outline = None }
 
     ask_builds : (ask : Ask) (steps : List Step) (marks_before : List Mark) (next : Mark) → IsAsk m ask → build orders (in_tree steps marks_before next) (ask_line ask) ≡ in_tree (steps ++ step_of ask ∷ []) (marks_before ++ next ∷ []) marks.Plain
     ask_builds (Pair i j) steps before next h =
@@ -143,7 +143,7 @@ module _ (m : Mill) (limited : IsInLimits m) where
 
   module _ (version : Version) (points : List Point) (sums : Sums) where
     abbrev in_plan : Plan → Built
-    in_plan q = record { version = version; points = points; current = Some (sums, q); tree = seedling; whole = false; outline = None }
+    in_plan q = record { version = version; points = points; current = Some (sums, q); tree = seedling; outline = None }
 
     slab_builds : (q : Plan) (kind : Kind) (os : List ℕ) → IsInStock m kind → Rises 0 orders os → build orders (in_plan q) (slab_line_on kind os) ≡ in_plan (add_slab q kind os)
     slab_builds q (New size) os stock rises =
@@ -174,7 +174,7 @@ module _ (m : Mill) (limited : IsInLimits m) where
   module _ (version : Version) where
     -- nothing is begun after these points
     abbrev base : List Point → Built
-    base points = record { version = version; points = points; current = None; tree = seedling; whole = false; outline = None }
+    base points = record { version = version; points = points; current = None; tree = seedling; outline = None }
 
     few_slabs : (p : Plan) → IsLegal m p → length p.kinds ≤ 10000
     few_slabs p legal = omega (arith, slabs_with_orders (length p.kinds) p.place (λ k l. (legal.fits k l).some), legal.places, limited.order_count)
@@ -193,7 +193,7 @@ module _ (m : Mill) (limited : IsInLimits m) where
         let parts = ap closed (build_append orders (in_plan version points point.sums (empty_plan orders)) (map slab_line (columns_of point.plan)) (tree_lines version point.steps)) in
         let slabs = ap (λ (b : Built). closed (build_all orders b (tree_lines version point.steps))) (slabs_build version points point.sums (columns_of point.plan) (empty_plan orders) (slabs_are point.plan good.legal)) in
         let plan = ap (λ (q : Plan). closed (build_all orders (in_plan version points point.sums q) (tree_lines version point.steps))) (slabs_make_plan m limited point.plan good.legal good.order (few_slabs point.plan good.legal)) in
-        let tree = ap closed (steps_build version points (Some (point.sums, point.plan)) false _ point.steps good.steps of) in
+        let tree = ap closed (steps_build version points (Some (point.sums, point.plan)) _ point.steps good.steps of) in
         sums ∙ (parts ∙ (slabs ∙ (plan ∙ tree)))
 
     abbrev HaveMarks : List MarkedSteps → Type 0
@@ -235,7 +235,7 @@ module _ (m : Mill) (limited : IsInLimits m) where
 
     ending_builds : (points : List Point) (ending : Ending) (b : Built) → closed b ≡ base points → IsGoodEnded m points ending → HaveMarks (last_tree ending) → build_all orders b (ending_lines version ending) ≡ built_of (record { version = version; points = points; ending = ending })
     ending_builds points (Whole last) b e good of =
-        ap (λ (x : Built). build_all orders (record x { whole = true }) (tree_lines version last)) e ∙ steps_build version points None true _ last good.rest of.0
+        ap (λ (x : Built). build_all orders x (tree_lines version last)) e ∙ steps_build version points None _ last good.rest of.0
     ending_builds points (Cut steps) b e good of =
         ap (λ (x : Built). build_all orders (record x { outline = Some [] }) (map outline_line steps)) e
         ∙ (ap (λ (xs : List (Option Ask)). build_all orders (in_outline points []) (map outline_line xs)) good.rest.steps_are ∙ (outline_builds points good.rest.tree [] [] good.rest.fresh ∙ ap (in_outline points) (sym good.rest.steps_are)))

@@ -10,5 +10,7 @@ pub mod Seen
 pub mod Held
 pub mod Endings
 pub mod Building
-pub mod Cuts
 pub mod Rebuilt
+pub mod Gathering
+pub mod Cuts
+pub mod Next

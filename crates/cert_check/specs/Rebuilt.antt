@@ -1,5 +1,5 @@
 -- What the lines of a certificate build.
-use Rattle.std.specs.Prelude.{◌≡◌, Bool, true, false, length, List, Option, Some, None}
+use Rattle.std.specs.Prelude.{◌≡◌, length, List, Option, Some, None}
 use Rattle.mill_model.specs.declared.ask.Ask.{Ask}
 use Rattle.mill_model.specs.declared.mark.Mark.TheVariants as marks
 use Rattle.mill_model.specs.Mill.{Mill, IsInLimits}
@@ -12,17 +12,13 @@ abbrev pub rest_tree : Ending → Growing
 rest_tree (Whole last) = record { steps = last.steps; marks = last.marks; next = marks.Plain }
 rest_tree (Cut outline) = seedling
 
-abbrev pub is_whole : Ending → Bool
-is_whole (Whole last) = true
-is_whole (Cut outline) = false
-
 abbrev pub outline_of : Ending → Option (List (Option Ask))
 outline_of (Whole last) = None
 outline_of (Cut outline) = Some outline
 
 -- a certificate, as it is built
 abbrev pub built_of : Certificate → Built
-built_of c = record { version = c.version; points = c.points; current = None; tree = rest_tree c.ending; whole = is_whole c.ending; outline = outline_of c.ending }
+built_of c = record { version = c.version; points = c.points; current = None; tree = rest_tree c.ending; outline = outline_of c.ending }
 
 -- the lines of a good certificate build it back
 abbrev pub LinesBuildBack : Type 0

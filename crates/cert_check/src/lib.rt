@@ -5,23 +5,33 @@
 //! line by line), and last `checker`.
 #![tactic(auto)]
 
+mod assembly;
 mod checker;
+mod cut_reader;
 mod ending;
 mod failure;
+mod gatherer;
+mod growing;
 mod laws;
 mod line_why;
 mod machine;
+mod numbers;
+mod outline;
 mod phase;
+mod placing;
 mod points;
 mod reader;
 mod spread;
 mod staircase;
 mod tree;
 mod verdict;
+mod whole;
 
 pub use checker::{Checker, check};
+pub use cut_reader::CutReader;
 pub use failure::Failure;
 pub use laws::lines_build_back;
 pub use line_why::{LineWhy, OrderList};
 pub use points::Points;
 pub use verdict::{CertRead, CutRead, Verdict};
+pub use whole::{read_cert, read_cut};
