@@ -1,7 +1,11 @@
 -- A reader that keeps what it reads: for which bytes it stands, and what it gives at the end.
 use Rattle.std.specs.Prelude.{◌≡◌, ℕ, List, length, Option, Some, None}
 use Rattle.mill_model.specs.Mill.{Mill}
-use Rattle.cert_text.specs.Certificates.{Certificate}
+use Rattle.mill_model.specs.declared.version.Version.{Version}
+use Rattle.mill_model.specs.Marks.{MarkedSteps}
+use Rattle.mill_model.specs.Fronts.{Point}
+use Rattle.cert_text.specs.Certificates.{Certificate, IsGood}
+use Rattle.cert_text.specs.Certificates.Ending.{Whole}
 use Rattle.cert_text.specs.Texts.{Spells}
 use Rattle.cert_rules.specs.States.{Wanted}
 use Rattle.cert_rules.specs.Laws.{IsWanted}
@@ -27,6 +31,11 @@ GathersBy wanted g (Some failure) bytes = Fails wanted g.reading.mill failure by
 
 pub record Gathers (wanted : Wanted) (g : Gathered) (bytes : List ℕ) : Type 0 where
   pub stands : GathersBy wanted g g.reading.failed bytes
+
+-- the bytes spell the good whole certificate of these parts
+abbrev pub IsSpelledWhole : Mill → List ℕ → Version → List Point → MarkedSteps → Type 0
+IsSpelledWhole m bytes version points last =
+    let c : Certificate = record { version = version; points = points; ending = Whole last } in Spells bytes c × IsGood m c
 
 -- the bytes spell a good certificate of those that are wanted, and this is what its lines build
 pub record IsBuiltFrom (m : Mill) (wanted : Wanted) (bytes : List ℕ) (b : Built) : Type 0 where

@@ -4,7 +4,7 @@ ghost use Rattle.mill_model.specs.Mill.{Mill};
 ghost use Rattle.cert_view.specs.Text.{IsLine};
 ghost use Rattle.cert_rules.specs.States.Wanted.{All};
 ghost use Rattle.cert_check.specs.Building.{add_ask, add_new, add_old, add_open_to, add_to_current, build, built_sums, closed, empty_plan, nothing_built};
-ghost use Rattle.cert_check.specs.Gathering.{IsBuiltFrom};
+ghost use Rattle.cert_check.specs.Gathering.{IsBuiltFrom, IsSpelledWhole};
 ghost use Rattle.cert_check.specs.Verdicts.{IsCertRead};
 
 use crate::CertRead;
@@ -13,7 +13,7 @@ use crate::numbers::{copy_numbers, index16, list_orders, natural16, read_pair, r
 use crate::outline::Outline;
 use crate::placing::Placing;
 use cert_view::{Line, Nums};
-use mill_model::{Ask, Front, Head, Kind, Proved, Version};
+use mill_model::{Ask, Front, Head, Kind, Proved, Steps, Version};
 use std::alloc::{AllocError, Global};
 use std::marker::Model;
 
@@ -183,21 +183,38 @@ impl Assembly {
 
     // The finished points.
     pub(crate) fn into_head(self) -> Head
-        ensures { result ≡ self.entry.points }
+        ensures { result ≡ self.points }
     {
         Head::new(self.points)
     }
 
     // The certificate that was built.
     pub(crate) fn into_certificate(self) -> CertRead
-        ensures { (m : Mill) (bytes : List ℕ) → IsBuiltFrom m All bytes self.entry → IsCertRead m bytes result }
+        ensures { (m : Mill) (bytes : List ℕ) → IsBuiltFrom m All bytes self → IsCertRead m bytes result }
     {
-        let head = Head::new(self.points);
-        let last = self.tree.into_steps();
-        match self.outline {
-            Some(outline) => CertRead::Cut(self.version, head, outline.into_open_tree()),
-            None if head.points().is_empty() => CertRead::NoPlan(self.version, last),
-            None => CertRead::Whole(self.version, Front::new(head, last)),
+        let Assembly {
+            version,
+            points,
+            current: _current,
+            tree,
+            outline,
+        } = self;
+        let head = Head::new(points);
+        let last = tree.into_steps();
+        match outline {
+            Some(outline) => CertRead::Cut(version, head, outline.into_open_tree()),
+            None => whole_certificate(version, head, last),
         }
+    }
+}
+
+// A whole certificate of these parts.
+fn whole_certificate(version: Version, head: Head, last: Steps) -> CertRead
+    ensures { (m : Mill) (bytes : List ℕ) → IsSpelledWhole m bytes version head last → IsCertRead m bytes result }
+{
+    if head.points().is_empty() {
+        CertRead::NoPlan(version, last)
+    } else {
+        CertRead::Whole(version, Front::new(head, last))
     }
 }

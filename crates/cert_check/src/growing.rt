@@ -137,7 +137,7 @@ impl Growing {
 
     // The tree.
     pub(crate) fn into_steps(self) -> Steps
-        ensures { result ≡ tree_of self.entry }
+        ensures { result ≡ tree_of self }
     {
         Steps::new(self.steps, self.marks)
     }

@@ -40,7 +40,7 @@ impl Outline {
 
     // The open tree.
     pub(crate) fn into_open_tree(self) -> OpenTree
-        ensures { result ≡ self.entry }
+        ensures { result ≡ self }
     {
         OpenTree::new(self.list)
     }

@@ -48,7 +48,7 @@ impl Placing {
 
     // The point with its tree.
     pub(crate) fn into_point(self, steps: Steps) -> Proved
-        ensures { result ≡ record { sums = self.entry.0; plan = self.entry.1; steps = steps } }
+        ensures { result ≡ record { sums = self.0; plan = self.1; steps = steps } }
     {
         Proved::new(self.sums, Plan::new(self.kinds, self.place), steps)
     }

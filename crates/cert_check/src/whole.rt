@@ -35,7 +35,7 @@ pub fn read_cert(alloc: Global, mill: &Mill, bytes: &[u8]) -> Result<CertRead, A
 
 // The certificate, or the first bad line.
 fn what_was_read(gatherer: Gatherer<'_>) -> CertRead
-    requires { gatherer.entry.reading.wanted ≡ All }
+    requires { gatherer.reading.wanted ≡ All }
     ensures { (bytes : List ℕ) → Gathers All gatherer.entry bytes → IsCertRead gatherer.entry.reading.mill bytes result }
 {
     match gatherer.end() {
