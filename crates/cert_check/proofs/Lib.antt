@@ -7,3 +7,4 @@ pub mod Ends
 pub mod Checked
 pub mod Slabbing
 pub mod Rebuilding
+pub mod Gathering

@@ -45,7 +45,7 @@ use Rattle.cert_check.proofs.Slabbing.{index16_number, natural16_small, loss_sma
 
 -- ---- lists
 
-build_append : (n : ℕ) (b : Built) (xs ys : List Line) → build_all n b (xs ++ ys) ≡ build_all n (build_all n b xs) ys
+pub build_append : (n : ℕ) (b : Built) (xs ys : List Line) → build_all n b (xs ++ ys) ≡ build_all n (build_all n b xs) ys
 build_append n b [] ys = refl
 build_append n b (x ∷ xs) ys = build_append n (build n b x) xs ys
 
