@@ -8,3 +8,4 @@ pub mod Checked
 pub mod Slabbing
 pub mod Rebuilding
 pub mod Gathering
+pub mod Spelling

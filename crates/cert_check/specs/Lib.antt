@@ -14,3 +14,4 @@ pub mod Rebuilt
 pub mod Gathering
 pub mod Cuts
 pub mod Next
+pub mod Parts

@@ -19,12 +19,13 @@ impl<'m> Model for CutReader<'m> {
     ghost use Rattle.std.specs.Prelude.{◌≡◌};
     ghost use Rattle.cert_rules.specs.States.Wanted.{Cuts};
     ghost use Rattle.cert_check.specs.Gathering.{Gathered};
+    ghost use Rattle.cert_check.specs.Parts.{gathered};
 
     ghost Value = { Gathered };
 
-    ghost view = { λ c. c.gatherer };
+    ghost view = { λ c. gathered c.gatherer };
 
-    ghost invariant = { λ c. c.gatherer.reading.wanted ≡ Cuts };
+    ghost invariant = { λ c. c.gatherer.reader.reading.wanted ≡ Cuts };
 }
 
 impl<'m> CutReader<'m> {

@@ -2,6 +2,7 @@
 ghost use Rattle.std.specs.Prelude.{◌≡◌, ℕ, IfOk, List};
 ghost use Rattle.cert_rules.specs.States.Wanted.{All};
 ghost use Rattle.cert_check.specs.Gathering.{Gathers};
+ghost use Rattle.cert_check.specs.Parts.{gathered};
 ghost use Rattle.cert_check.specs.Verdicts.{IsCutRead, IsCertRead};
 
 use crate::gatherer::Gatherer;
@@ -35,8 +36,8 @@ pub fn read_cert(alloc: Global, mill: &Mill, bytes: &[u8]) -> Result<CertRead, A
 
 // The certificate, or the first bad line.
 fn what_was_read(gatherer: Gatherer<'_>) -> CertRead
-    requires { gatherer.reading.wanted ≡ All }
-    ensures { (bytes : List ℕ) → Gathers All gatherer.entry bytes → IsCertRead gatherer.entry.reading.mill bytes result }
+    requires { gatherer.reader.reading.wanted ≡ All }
+    ensures { (bytes : List ℕ) → Gathers All (gathered gatherer.entry) bytes → IsCertRead gatherer.entry.reader.reading.mill bytes result }
 {
     match gatherer.end() {
         Err(failure) => CertRead::No {
