@@ -51,7 +51,10 @@ impl<'m> Gatherer<'m> {
     {
         let mut at = 0;
         while at < piece.len() && !self.failed() {
-            at += self.take(alloc, &piece[at..])?;
+            match self.take(alloc, &piece[at..]) {
+                Err(error) => return Err(error),
+                Ok(taken) => at += taken,
+            }
         }
         Ok(())
     }
