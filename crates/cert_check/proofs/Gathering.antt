@@ -6,7 +6,7 @@ use Rattle.std.proofs.lemmas.List.{take-append-drop, append_cancel_right}
 use Rattle.std.proofs.Math.Seq.{take-add, take-length}
 use Rattle.mill_model.specs.Mill.{Mill, IsInLimits}
 use Rattle.cert_view.specs.declared.line.Line.{Line}
-use Rattle.cert_view.specs.Text.{line_text}
+use Rattle.cert_view.specs.Text.{line_text, IsLine}
 use Rattle.cert_text.specs.Lines.{certificate_lines}
 use Rattle.cert_text.specs.Texts.{lines_text, IsReadable}
 use Rattle.cert_text.proofs.Texts.{goes_on, GoesOn}
@@ -114,6 +114,22 @@ module _ (old new : Gathered) (fed : List ℕ) (mill : new.reading.mill ≡ old.
   pub line_gathered : (last : Option Line) → old.reading.failed ≡ None → IsMoved old.reading.held fed new.reading.held last → IsBuiltOn (length old.reading.mill.orders) old.built new.built last → (bytes : List ℕ) → Gathers old.reading.wanted old bytes → Gathers old.reading.wanted new (bytes ++ fed)
   line_gathered last running moved on bytes h =
       gathers_from old.reading.wanted new (bytes ++ fed) (stood bytes h) (λ r. subst (λ (m : Mill). new.built ≡ build_all (length m.orders) nothing_built r.running.before) (sym mill) (lines_now last bytes moved (gathers_running old.reading.wanted old bytes running h) r on))
+
+  none_from : (failed : Option Failure) → is_some failed ≡ false → failed ≡ None
+  none_from None e = refl
+  none_from (Some failure) e = absurd (false≢true (sym e))
+
+  module _ (now last : Option Line) (good : is_some new.reading.failed ≡ false) (moved : new.reading.failed ≡ None → IsMoved old.reading.held fed new.reading.held now) (is : now ≡ last) where
+    moved_by : IsMoved old.reading.held fed new.reading.held last
+    moved_by = subst (λ (l : Option Line). IsMoved old.reading.held fed new.reading.held l) is (moved (none_from new.reading.failed good))
+
+    pub taken_gathered : old.reading.failed ≡ None → IsBuiltOn (length old.reading.mill.orders) old.built new.built last → (bytes : List ℕ) → Gathers old.reading.wanted old bytes → Gathers old.reading.wanted new (bytes ++ fed)
+    taken_gathered running on bytes h = line_gathered last running moved_by on bytes h
+
+-- a line that ended the bytes can be read
+pub moved_is_line : (held fed next : List ℕ) (now : Option Line) (line : Line) (failed : Option Failure) → is_some failed ≡ false → (failed ≡ None → IsMoved held fed next now) → now ≡ Some line → IsLine line
+moved_is_line held fed next now line None good moved is = (subst (λ (l : Option Line). IsMoved held fed next l) is (moved refl)).2.good
+moved_is_line held fed next now line (Some failure) good moved is = absurd (false≢true (sym good))
 
 -- ---- a piece
 

@@ -25,8 +25,11 @@ whole_of (Whole last) g e f = sym (ap (λ (x : Growing). Whole (tree_of x)) f)
 whole_of (Cut found) g e f = absurd (let h : Some found ≡ None = e in cc)
 
 module _ (m : Mill) (bytes : List ℕ) where
-  pub head_spelled : (b : Built) → IsBuiltFrom m Cuts bytes b → IsCutRead m bytes (heads.Head b.points)
+  head_spelled : (b : Built) → IsBuiltFrom m Cuts bytes b → IsCutRead m bytes (heads.Head b.points)
   head_spelled b h = (h.certificate, h.spells, record { good = h.good.good; cut = h.good.ends }, sym (ap (λ (x : Built). x.points) h.built))
+
+  pub head_read : (b : Built) (head : List Point) → head ≡ b.points → IsBuiltFrom m Cuts bytes b → IsCutRead m bytes (heads.Head head)
+  head_read b head e h = subst (λ (ps : List Point). IsCutRead m bytes (heads.Head ps)) (sym e) (head_spelled b h)
 
   pub cut_spelled : (b : Built) (outline : List (Option Ask)) → b.outline ≡ Some outline → IsBuiltFrom m All bytes b → IsCertRead m bytes (certs.Cut b.version b.points outline)
   cut_spelled b outline e h =
