@@ -1,9 +1,12 @@
 -- Slabs, one after another, make the plan that they are of.
-use Rattle.std.proofs.Common.{◌≡◌, ◌||◌, ℕ, zero, suc, ◌+◌, ◌<◌, ◌≤◌, ◌^◌, ℤ, pos, Bool, true, false, cond, eqb, set, List, [], ◌∷◌, ◌++◌, map, length, get_or, replicate, refl, sym, ap, ap₂, ◌∙◌, subst, arith, append_assoc, append-nil, inl, inr}
+use Rattle.std.proofs.Common.{◌≡◌, ◌||◌, ℕ, zero, suc, ◌+◌, ◌<◌, ◌≤◌, ◌^◌, ℤ, pos, Bool, true, false, cond, eqb, set, List, [], ◌∷◌, ◌++◌, map, length, get_or, take, drop, min, All, replicate, refl, sym, ap, ap₂, ◌∙◌, subst, arith, append_assoc, append-nil, inl, inr}
 use Rattle.std.specs.List.{range_with_len}
-use Rattle.std.proofs.lemmas.List.{length-set, get_or-set_same, get_or-set_other, ext_get_or, length-append, length-replicate}
+use Rattle.std.proofs.lemmas.List.{length-set, get_or-set_same, get_or-set_other, ext_get_or, length-append, length-replicate, take_all, drop_all}
 use Rattle.std.proofs.lemmas.Bool.{cases_Bool, cases_lt, eqb-true, eq-eqb, eqb-false}
-use Rattle.std.proofs.lemmas.List.Elements.{All-get_or}
+use Rattle.std.proofs.lemmas.List.Elements.{All-weaker, All-get_or, All-take, All-drop}
+use Rattle.std.proofs.lemmas.Int.{ints}
+use Rattle.mill_model.specs.Prices.{IsPrice, ArePrices, prices_of}
+use Rattle.cert_view.specs.Number.{IsWithin}
 use Rattle.mill_model.specs.declared.kind.Kind.{Kind}
 use Rattle.mill_model.specs.declared.kind.Kind.TheVariants.{New, Old}
 use Rattle.mill_model.specs.Mill.{Mill, IsInLimits, IsBetween}
@@ -115,3 +118,38 @@ module _ (m : Mill) (limited : IsInLimits m) (p : Plan) (legal : IsLegal m p) wh
 
       place : made.place ≡ p.place
       place = ext_get_or 0 made.place p.place (first.long ∙ sym legal.places) (λ o l. let h : o < length m.orders = omega (arith, l, first.long) in first.at o h (on_a_slab m p legal o h))
+
+-- ---- prices
+
+take_least : (n : ℕ) (xs : List ℤ) → take (min n (length xs)) xs ≡ take n xs
+take_least n xs = elim (cases_lt n (length xs)) [
+  | inl l ↦ ap (λ k. take k xs) (omega (arith, l))
+  | inr l ↦ take_all (min n (length xs)) xs (omega (arith, l)) ∙ sym (take_all n xs l)
+]
+
+drop_least : (n : ℕ) (xs : List ℤ) → drop (min n (length xs)) xs ≡ drop n xs
+drop_least n xs = elim (cases_lt n (length xs)) [
+  | inl l ↦ ap (λ k. drop k xs) (omega (arith, l))
+  | inr l ↦ drop_all (min n (length xs)) xs (omega (arith, l)) ∙ sym (drop_all n xs l)
+]
+
+-- numbers that were split are prices
+pub split_is : (n : ℕ) (l u : ℤ) (rest pi sigma : List ℤ) → pi ≡ take (min n (length rest)) rest → sigma ≡ drop (min n (length rest)) rest → record { lambda = l; mu = u; pi = pi; sigma = sigma } ≡ prices_of n (l ∷ u ∷ rest)
+split_is n l u rest pi sigma e f =
+    let two : 2 + n ≡ suc (suc n) = omega arith in
+    let first : pi ≡ take n rest = e ∙ take_least n rest in
+    let second : sigma ≡ drop n rest = f ∙ drop_least n rest in
+    rw two (λ i. record { lambda = l; mu = u; pi = first i; sigma = second i })
+
+pub are_prices : (n : ℕ) (ns : List ℤ) → 2 ≤ length ns → All IsWithin ns → ArePrices (prices_of n ns)
+are_prices n ns few within =
+    let all : All IsPrice ns = All-weaker IsWithin IsPrice within_price ns within in
+    record {
+      lambda = All-get_or IsPrice ns 0 _ (omega (arith, few)) all;
+      mu = All-get_or IsPrice ns 1 _ (omega (arith, few)) all;
+      pi = All-take IsPrice n (drop 2 ns) (All-drop IsPrice 2 ns all);
+      sigma = All-drop IsPrice (2 + n) ns all;
+    }
+  where
+    within_price : (z : ℤ) → IsWithin z → IsPrice z
+    within_price z h = (omega (arith, ints), omega (arith, ints))

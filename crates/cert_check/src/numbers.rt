@@ -1,5 +1,5 @@
 //! Numbers of lines as the certificate keeps them. Those of good lines fit.
-ghost use Rattle.std.specs.Prelude.{◌≡◌, ◌≤◌, ◌≤ℤ◌, pos, All, IfOk, length};
+ghost use Rattle.std.specs.Prelude.{◌≡◌, ◌≤◌, ◌≤ℤ◌, ◌∷◌, pos, All, IfOk, length};
 ghost use Rattle.cert_rules.specs.Numbers.{natural};
 ghost use Rattle.cert_view.specs.Number.{IsWithin};
 ghost use Rattle.mill_model.specs.Prices.{prices_of};
@@ -99,18 +99,26 @@ pub(crate) fn read_prices(alloc: Global, orders: usize, numbers: &Nums<'_>) -> R
     ensures { IfOk result (λ p. p ≡ prices_of orders numbers.now) }
 {
     let all = copy_numbers(alloc, numbers)?;
-    split_prices(alloc, orders, &all)
+    match all.as_slice() {
+        [lambda, mu, rest @ ..] => split_prices(alloc, orders, *lambda, *mu, rest),
+        _ => unreachable!(),
+    }
 }
 
-// Numbers as prices.
-fn split_prices(alloc: Global, orders: usize, numbers: &[i64]) -> Result<Prices, AllocError>
-    requires count { 2 ≤ length numbers.now }
-    requires within { All IsWithin numbers.now }
-    ensures { IfOk result (λ p. p ≡ prices_of orders numbers.now) }
+// The prices of loss and of a new slab, with those of the orders and of the surplus slabs after them.
+fn split_prices(alloc: Global, orders: usize, lambda: i64, mu: i64, rest: &[i64]) -> Result<Prices, AllocError>
+    requires { All IsWithin (lambda ∷ mu ∷ rest.now) }
+    ensures { IfOk result (λ p. p ≡ prices_of orders (lambda ∷ mu ∷ rest.now)) }
 {
-    let rest = &numbers[2..];
-    let cut = orders.min(rest.len());
-    let pi = rest[..cut].to_vec(alloc)?;
-    let sigma = rest[cut..].to_vec(alloc)?;
-    Ok(Prices::new(numbers[0], numbers[1], pi, sigma))
+    let (pi, sigma) = rest.split_at(orders.min(rest.len()));
+    let pi = keep(alloc, pi)?;
+    let sigma = keep(alloc, sigma)?;
+    Ok(Prices::new(lambda, mu, pi, sigma))
+}
+
+// These numbers, kept.
+fn keep(alloc: Global, numbers: &[i64]) -> Result<Vec<i64>, AllocError>
+    ensures { IfOk result (λ v. v.items ≡ numbers.now) }
+{
+    numbers.to_vec(alloc)
 }
