@@ -1,5 +1,5 @@
 -- What a certificate that was built shows.
-use Rattle.std.proofs.Common.{◌≡◌, ℕ, ◌<◌, List, [], length, Option, Some, None, refl, sym, ap, ◌∙◌, subst}
+use Rattle.std.proofs.Common.{◌≡◌, ℕ, zero, suc, ◌<◌, arith, List, [], ◌∷◌, length, Option, Some, None, refl, sym, ap, ◌∙◌, subst}
 use Rattle.mill_model.specs.declared.ask.Ask.{Ask}
 use Rattle.mill_model.specs.declared.version.Version.{Version}
 use Rattle.mill_model.specs.Mill.{Mill}
@@ -15,6 +15,14 @@ use Rattle.cert_check.specs.Building.{Growing, Built, tree_of}
 use Rattle.cert_check.specs.Rebuilt.{rest_tree, outline_of}
 use Rattle.cert_check.specs.Gathering.{IsBuiltFrom, IsSpelledWhole}
 use Rattle.cert_check.specs.Verdicts.{IsCutRead, IsCertRead}
+
+pub none_from : (points : List Point) → length points ≡ 0 → points ≡ []
+none_from [] e = refl
+none_from (x ∷ xs) e = absurd (omega (arith, e))
+
+pub some_from : (n : ℕ) → (n ≡ 0 → ⊥) → 0 < n
+some_from zero h = absurd (h refl)
+some_from (suc n) h = omega arith
 
 cut_of : (ending : Ending) (outline : List (Option Ask)) → outline_of ending ≡ Some outline → ending ≡ Cut outline
 cut_of (Whole last) outline e = absurd (let f : None ≡ Some outline = e in cc)

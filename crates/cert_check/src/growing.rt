@@ -3,7 +3,7 @@ ghost use Rattle.std.specs.Prelude.{◌≡◌, ◌≤◌, [], OnOk, length};
 ghost use Rattle.mill_model.specs.declared.mark.Mark.TheVariants as marks;
 ghost use Rattle.mill_model.specs.Trees.{step_of};
 ghost use Rattle.cert_rules.specs.Numbers.{number_at};
-ghost use Rattle.cert_check.specs.Building.{add_leaf, add_new_share, add_old_share, add_question, add_share, seedling, tree_of};
+ghost use Rattle.cert_check.specs.Building.{add_leaf, add_new_share, add_old_share, add_question, add_share, orders16, seedling, tree_of};
 ghost use Rattle.cert_check.specs.Next.{mark_of};
 
 use crate::numbers::{copy_numbers, index16, list_orders, natural16, read_prices};
@@ -107,8 +107,7 @@ impl Growing {
             [] => Ok(()),
             [_] => Ok(()),
             [times, size, orders @ ..] => {
-                let orders = list_orders(alloc, orders)?;
-                self.share(Share::new(*times, Kind::New(natural16(*size)), orders))
+                self.share(alloc, *times, Kind::New(natural16(*size)), orders)
             }
         }
     }
@@ -122,17 +121,17 @@ impl Growing {
             [] => Ok(()),
             [_] => Ok(()),
             [times, slab, orders @ ..] => {
-                let orders = list_orders(alloc, orders)?;
-                self.share(Share::new(*times, Kind::Old(index16(*slab)), orders))
+                self.share(alloc, *times, Kind::Old(index16(*slab)), orders)
             }
         }
     }
 
     // One share more.
-    fn share(&mut self, share: Share) -> Result<(), AllocError>
-        ensures { OnOk result (self.new ≡ record self.old { next = add_share self.old.next share }) }
+    fn share(&mut self, alloc: Global, times: i64, kind: Kind, orders: &[i64]) -> Result<(), AllocError>
+        ensures { OnOk result (self.new ≡ record self.old { next = add_share self.old.next (record { times = times; kind = kind; orders = orders16 orders.now }) }) }
     {
-        add_share(&mut self.next, share)
+        let orders = list_orders(alloc, orders)?;
+        add_share(&mut self.next, Share::new(times, kind, orders))
     }
 
     // The tree.
