@@ -1,10 +1,11 @@
 -- Slabs, one after another, make the plan that they are of.
-use Rattle.std.proofs.Common.{◌≡◌, ◌||◌, ℕ, zero, suc, ◌+◌, ◌<◌, ◌≤◌, ◌^◌, ℤ, pos, Bool, true, false, cond, eqb, set, List, [], ◌∷◌, ◌++◌, map, length, get_or, take, drop, min, All, replicate, refl, sym, ap, ap₂, ◌∙◌, subst, arith, append_assoc, append-nil, inl, inr}
+use Rattle.std.proofs.Common.{◌≡◌, ◌||◌, ℕ, zero, suc, ◌+◌, ◌<◌, ◌≤◌, ◌^◌, ℤ, pos, Bool, true, false, cond, eqb, set, List, [], ◌∷◌, ◌++◌, map, length, get_or, take, drop, All, w64, to_z, of_z, rules, ◌-◌, replicate, refl, sym, ap, ap₂, ◌∙◌, subst, arith, append_assoc, append-nil, inl, inr}
 use Rattle.std.specs.List.{range_with_len}
-use Rattle.std.proofs.lemmas.List.{length-set, get_or-set_same, get_or-set_other, ext_get_or, length-append, length-replicate, take_all, drop_all}
+use Rattle.std.proofs.lemmas.List.{length-set, get_or-set_same, get_or-set_other, ext_get_or, length-append, length-replicate, take_all}
 use Rattle.std.proofs.lemmas.Bool.{cases_Bool, cases_lt, eqb-true, eq-eqb, eqb-false}
 use Rattle.std.proofs.lemmas.List.Elements.{All-weaker, All-get_or, All-take, All-drop}
 use Rattle.std.proofs.lemmas.Int.{ints}
+use Rattle.std.proofs.Math.Facts.{to_z-of_z}
 use Rattle.mill_model.specs.Prices.{IsPrice, ArePrices, prices_of}
 use Rattle.cert_view.specs.Number.{IsWithin}
 use Rattle.mill_model.specs.declared.kind.Kind.{Kind}
@@ -121,25 +122,28 @@ module _ (m : Mill) (limited : IsInLimits m) (p : Plan) (legal : IsLegal m p) wh
 
 -- ---- prices
 
-take_least : (n : ℕ) (xs : List ℤ) → take (min n (length xs)) xs ≡ take n xs
-take_least n xs = elim (cases_lt n (length xs)) [
-  | inl l ↦ ap (λ k. take k xs) (omega (arith, l))
-  | inr l ↦ take_all (min n (length xs)) xs (omega (arith, l)) ∙ sym (take_all n xs l)
-]
-
-drop_least : (n : ℕ) (xs : List ℤ) → drop (min n (length xs)) xs ≡ drop n xs
-drop_least n xs = elim (cases_lt n (length xs)) [
-  | inl l ↦ ap (λ k. drop k xs) (omega (arith, l))
-  | inr l ↦ drop_all (min n (length xs)) xs (omega (arith, l)) ∙ sym (drop_all n xs l)
-]
+-- a number that is written and read again
+written : (z : ℤ) → IsWithin z → to_z w64 (of_z w64 z) ≡ z
+written z h = to_z-of_z {w = w64} {z = z} (search (rules, h))
 
 -- numbers that were split are prices
-pub split_is : (n : ℕ) (l u : ℤ) (rest pi sigma : List ℤ) → pi ≡ take (min n (length rest)) rest → sigma ≡ drop (min n (length rest)) rest → record { lambda = l; mu = u; pi = pi; sigma = sigma } ≡ prices_of n (l ∷ u ∷ rest)
-split_is n l u rest pi sigma e f =
+pub split_is : (n : ℕ) (l u : ℤ) (rest pi sigma : List ℤ) → All IsWithin (l ∷ u ∷ rest) → pi ≡ take n rest → sigma ≡ drop n rest → record { lambda = to_z w64 (of_z w64 l); mu = to_z w64 (of_z w64 u); pi = pi; sigma = sigma } ≡ prices_of n (l ∷ u ∷ rest)
+split_is n l u rest pi sigma within first second =
     let two : 2 + n ≡ suc (suc n) = omega arith in
-    let first : pi ≡ take n rest = e ∙ take_least n rest in
-    let second : sigma ≡ drop n rest = f ∙ drop_least n rest in
-    rw two (λ i. record { lambda = l; mu = u; pi = first i; sigma = second i })
+    let lambda = written l (within 0 (pos 0) (omega arith)) in
+    let mu = written u (within 1 (pos 0) (omega arith)) in
+    rw two (λ i. record { lambda = lambda i; mu = mu i; pi = first i; sigma = second i })
+
+-- the first two numbers and those after them are all
+pub read_back : (ns : List ℤ) → 2 ≤ length ns → All IsWithin ns → to_z w64 (of_z w64 (get_or ns 0 (pos 0))) ∷ (to_z w64 (of_z w64 (get_or ns 1 (pos 0))) ∷ take (length ns - 2) (drop 2 ns)) ≡ ns
+read_back [] few within = absurd (omega (arith, few))
+read_back (a ∷ []) few within = absurd (omega (arith, few))
+read_back (a ∷ b ∷ rest) few within =
+    let long : length (a ∷ b ∷ rest) - 2 ≡ length rest = omega arith in
+    let others : take (length (a ∷ b ∷ rest) - 2) rest ≡ rest = subst (λ (k : ℕ). take k rest ≡ rest) (sym long) (take_all (length rest) rest (omega arith)) in
+    let first = written a (within 0 (pos 0) (omega arith)) in
+    let second = written b (within 1 (pos 0) (omega arith)) in
+    λ i. first i ∷ (second i ∷ others i)
 
 pub are_prices : (n : ℕ) (ns : List ℤ) → 2 ≤ length ns → All IsWithin ns → ArePrices (prices_of n ns)
 are_prices n ns few within =

@@ -1,5 +1,5 @@
 //! Numbers of lines as the certificate keeps them. Those of good lines fit.
-ghost use Rattle.std.specs.Prelude.{◌≡◌, ◌≤◌, ◌≤ℤ◌, ◌∷◌, pos, All, IfOk, length};
+ghost use Rattle.std.specs.Prelude.{◌≡◌, ◌≤◌, ◌≤ℤ◌, ◌∷◌, pos, All, IfOk, drop, length, take};
 ghost use Rattle.cert_rules.specs.Numbers.{natural};
 ghost use Rattle.cert_view.specs.Number.{IsWithin};
 ghost use Rattle.mill_model.specs.Prices.{prices_of};
@@ -110,10 +110,31 @@ fn split_prices(alloc: Global, orders: usize, lambda: i64, mu: i64, rest: &[i64]
     requires { All IsWithin (lambda ∷ mu ∷ rest.now) }
     ensures { IfOk result (λ p. p ≡ prices_of orders (lambda ∷ mu ∷ rest.now)) }
 {
-    let (pi, sigma) = rest.split_at(orders.min(rest.len()));
-    let pi = keep(alloc, pi)?;
-    let sigma = keep(alloc, sigma)?;
+    let pi = keep_first(alloc, orders, rest)?;
+    let sigma = keep_after(alloc, orders, rest)?;
     Ok(Prices::new(lambda, mu, pi, sigma))
+}
+
+// The first so many numbers, or all.
+fn keep_first(alloc: Global, count: usize, numbers: &[i64]) -> Result<Vec<i64>, AllocError>
+    ensures { IfOk result (λ v. v.items ≡ take count numbers.now) }
+{
+    if count < numbers.len() {
+        keep(alloc, &numbers[..count])
+    } else {
+        keep(alloc, numbers)
+    }
+}
+
+// The numbers after the first so many.
+fn keep_after(alloc: Global, count: usize, numbers: &[i64]) -> Result<Vec<i64>, AllocError>
+    ensures { IfOk result (λ v. v.items ≡ drop count numbers.now) }
+{
+    if count < numbers.len() {
+        keep(alloc, &numbers[count..])
+    } else {
+        Ok(Vec::new(alloc))
+    }
 }
 
 // These numbers, kept.
