@@ -16,7 +16,7 @@ returns-in-Some c = λ m bytes h.
     (subst (λ (o : List (Option Ask)). IsCertRead m bytes (certs.Cut c.self.inside.version c.self.inside.points.items o)) (sym c.into_open_tree.ensures)
     (cut_spelled m bytes _ c.in-Some.outline c.in-Some.is (subst (λ (b : Built). IsBuiltFrom m All bytes b) (sym c.self.view_is) h)))
 
-pub returns : goal.returns-in-None
+pub returns : goal.returns
 returns c = λ m bytes h.
     c.whole_certificate.ensures m bytes
     (subst (λ (ps : List Point). IsSpelledWhole m bytes c.self.inside.version ps c.into_steps-last.result) (sym c.new-head.ensures)

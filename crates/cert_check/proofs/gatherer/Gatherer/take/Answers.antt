@@ -1,4 +1,4 @@
-use Rattle.std.proofs.Common.{◌≡◌, ◌∙◌, None, Some, length, refl, sym, ap}
+use Rattle.std.proofs.Common.{◌≡◌, ◌∙◌, None, Some, length, take, refl, sym, ap}
 use Rattle.mill_model.specs.Mill.{Mill}
 use Rattle.cert_check.specs.Building.{build}
 use Rattle.cert_check.specs.Parts.{gathered}
@@ -6,7 +6,9 @@ use Rattle.cert_check.proofs.Gathering.{as_reader, bad_gathered, taken_gathered,
 use Rattle.cert_check.proofs.gatherer.Gatherer.take.Goals as goal
 
 pub add-requires : goal.add-requires
-add-requires c = moved_is_line _ _ _ _ _ _ (sym c.failed.ensures.value ∙ c.if-failed.false) c.take-taken.ensures.moved (sym c.last.ensures.line ∙ c.in-Some.is)
+add-requires c =
+    moved_is_line c.args.self.now.reader.reading.held (take c.take-taken.result c.args.piece.now) c.take-taken.new.self.reading.held c.take-taken.new.self.last c.in-Some.line c.take-taken.new.self.reading.failed
+    (sym c.failed.ensures.value ∙ c.if-failed.false) c.take-taken.ensures.moved (sym c.last.ensures.line ∙ c.in-Some.is)
 
 pub returns-then-failed-clause-stands : goal.returns-then-failed-clause-stands
 returns-then-failed-clause-stands c = bad_gathered (gathered c.args.self.now) _ _ c.take-taken.ensures.mill c.take-taken.ensures.wanted c.take-taken.ensures.stands (sym c.failed.ensures.value ∙ c.if-failed.true)
