@@ -9,7 +9,9 @@ ghost use Rattle.cert_check.specs.Verdicts.{IsCertRead};
 
 use crate::CertRead;
 use crate::growing::Growing;
-use crate::numbers::{copy_numbers, index16, list_orders, natural16, read_pair, read_put, read_sums};
+use crate::numbers::{
+    copy_numbers, index16, list_orders, natural16, read_pair, read_put, read_sums,
+};
 use crate::outline::Outline;
 use crate::placing::Placing;
 use cert_view::{Line, Nums};
@@ -50,7 +52,12 @@ impl Assembly {
     }
 
     // One line more, of a mill with so many orders.
-    pub(crate) fn add(&mut self, alloc: Global, orders: usize, line: &Line<'_>) -> Result<(), AllocError>
+    pub(crate) fn add(
+        &mut self,
+        alloc: Global,
+        orders: usize,
+        line: &Line<'_>,
+    ) -> Result<(), AllocError>
         requires { IsLine line.now }
         ensures { OnOk result (self.new ≡ build orders self.old line.now) }
     {

@@ -56,7 +56,12 @@ impl Growing {
     }
 
     // A leaf, in a mill with so many orders.
-    pub(crate) fn leaf(&mut self, alloc: Global, orders: usize, numbers: &Nums<'_>) -> Result<(), AllocError>
+    pub(crate) fn leaf(
+        &mut self,
+        alloc: Global,
+        orders: usize,
+        numbers: &Nums<'_>,
+    ) -> Result<(), AllocError>
         requires { 2 ≤ length numbers.now }
         ensures { OnOk result (self.new ≡ add_leaf orders self.old numbers.now) }
     {
@@ -127,7 +132,13 @@ impl Growing {
     }
 
     // One share more.
-    fn share(&mut self, alloc: Global, times: i64, kind: Kind, orders: &[i64]) -> Result<(), AllocError>
+    fn share(
+        &mut self,
+        alloc: Global,
+        times: i64,
+        kind: Kind,
+        orders: &[i64],
+    ) -> Result<(), AllocError>
         ensures { OnOk result (self.new ≡ record self.old { next = add_share self.old.next (record { times = times; kind = kind; orders = orders16 orders.now }) }) }
     {
         let orders = list_orders(alloc, orders)?;

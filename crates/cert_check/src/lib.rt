@@ -2,7 +2,9 @@
 //!
 //! Read `line_why`, `points` and `verdict` first (what is said), then `tree`, `staircase` and `spread` (the lines of a tree, of
 //! points and of a spread), `phase` and `machine` (one line after another), `ending`, `failure` and `reader` (bytes in pieces,
-//! line by line), and last `checker`.
+//! line by line), and `checker`. A certificate that is kept is built from its lines by `numbers`, `placing`, `growing`, `outline`
+//! and `assembly`; `gatherer` reads and builds, `cut_reader` and `whole` give what was read, and `laws` says why it is the
+//! certificate.
 #![tactic(auto)]
 
 mod assembly;

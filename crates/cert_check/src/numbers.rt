@@ -22,7 +22,11 @@ fn fit32(number: i64) -> u32
     requires { pos 0 ≤ℤ number }
     ensures { result ≡ fit 32 (natural number) }
 {
-    if number < 4_294_967_296 { number as u32 } else { 0 }
+    if number < 4_294_967_296 {
+        number as u32
+    } else {
+        0
+    }
 }
 
 // The order or surplus slab that a number names.
@@ -94,7 +98,11 @@ pub(crate) fn list_orders(alloc: Global, numbers: &[i64]) -> Result<Vec<u16>, Al
 }
 
 // The prices on a leaf's line, in a mill with so many orders.
-pub(crate) fn read_prices(alloc: Global, orders: usize, numbers: &Nums<'_>) -> Result<Prices, AllocError>
+pub(crate) fn read_prices(
+    alloc: Global,
+    orders: usize,
+    numbers: &Nums<'_>,
+) -> Result<Prices, AllocError>
     requires { 2 ≤ length numbers.now }
     ensures { IfOk result (λ p. p ≡ prices_of orders numbers.now) }
 {
@@ -106,7 +114,13 @@ pub(crate) fn read_prices(alloc: Global, orders: usize, numbers: &Nums<'_>) -> R
 }
 
 // The prices of loss and of a new slab, with those of the orders and of the surplus slabs after them.
-fn split_prices(alloc: Global, orders: usize, lambda: i64, mu: i64, rest: &[i64]) -> Result<Prices, AllocError>
+fn split_prices(
+    alloc: Global,
+    orders: usize,
+    lambda: i64,
+    mu: i64,
+    rest: &[i64],
+) -> Result<Prices, AllocError>
     requires { All IsWithin (lambda ∷ mu ∷ rest.now) }
     ensures { IfOk result (λ p. p ≡ prices_of orders (lambda ∷ mu ∷ rest.now)) }
 {
