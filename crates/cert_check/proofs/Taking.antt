@@ -20,8 +20,6 @@ use Rattle.cert_check.specs.declared.line_why.LineWhy.{LineWhy}
 use Rattle.cert_check.specs.declared.line_why.LineWhy.TheVariants as carried
 use Rattle.cert_check.specs.Whys.{why_of}
 use Rattle.cert_check.specs.Held.{Reader, CarriesColumn, IsOver, IsMoved, line_of_read}
-use Rattle.cert_rules.specs.States.Wanted.{Cuts}
-use Rattle.cert_check.specs.Cuts.{CutReading, CutStandsBy, StandsAsCut}
 use Rattle.cert_check.specs.Readings.{Reading, Machine, Stands, StandsBy, Runs, Fails, HasLessRoom, HasBadLine, room, IsSameReader, IsGoodHeld, IsBadHeld, IsRefusedHeld, IsStep}
 use Rattle.cert_check.proofs.Readings.{runs_has_no_bad_line}
 use Rattle.cert_check.proofs.HeldLines.{reading_of, refused_is_bad, fails_more, extra_stands, part_stands, part_room, line_stands, line_room, bad_stands}
@@ -225,12 +223,3 @@ taken_all old now piece at taken (inr bad) = record {
     stays : (bytes : List ℕ) (failed : Option Failure) → now.failed ≡ failed → is_some failed ≡ true → StandsBy now.wanted now failed (bytes ++ take at piece) → StandsBy now.wanted now failed (bytes ++ piece)
     stays bytes None e b h = cc
     stays bytes (Some failure) e b h = subst (λ (xs : List ℕ). Fails now.wanted now.mill failure xs) (rest_is bytes) (fails_more now.wanted now.mill failure (bytes ++ take at piece) (drop at piece) h)
-
--- ---- readers of cuts
-
-pub as_reader : (c : CutReading) (bytes : List ℕ) → c.reading.wanted ≡ Cuts → StandsAsCut c bytes → Stands c.reading bytes
-as_reader c bytes cuts h = at c.reading.failed h.stands
-  where
-    at : (failed : Option Failure) → CutStandsBy c failed bytes → StandsBy c.reading.wanted c.reading failed bytes
-    at None b = subst (λ (w : Wanted). Runs w c.reading bytes) (sym cuts) b.runs
-    at (Some failure) b = subst (λ (w : Wanted). Fails w c.reading.mill failure bytes) (sym cuts) b

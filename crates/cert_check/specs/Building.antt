@@ -1,5 +1,5 @@
 -- A certificate, built from its lines one after another.
-use Rattle.std.specs.Prelude.{ℕ, ◌^◌, ℤ, Bool, true, false, cond, nat_lt, List, [], ◌∷◌, ◌++◌, length, map, replicate, slice_set, Option, Some, None}
+use Rattle.std.specs.Prelude.{ℕ, ◌^◌, ℤ, cond, nat_lt, List, [], ◌∷◌, ◌++◌, length, map, replicate, slice_set, Option, Some, None}
 use Rattle.mill_model.specs.declared.ask.Ask.{Ask}
 use Rattle.mill_model.specs.declared.ask.Ask.TheVariants as asks
 use Rattle.mill_model.specs.declared.kind.Kind.{Kind}
@@ -112,18 +112,16 @@ built_put ns = asks.Put (index16 (number_at ns 0)) (index16 (number_at ns 1))
 
 -- ---- certificates
 
--- what was read of a certificate: its finished points, the point and the tree that are read, whether `done` was read, and after
--- `cut` the outline
+-- what was read of a certificate: its finished points, the point and the tree that are read, and after `cut` the outline
 pub record Built : Type 0 where
   pub version : Version
   pub points : List Point
   pub current : Current
   pub tree : Growing
-  pub whole : Bool
   pub outline : Option (List (Option Ask))
 
 abbrev pub nothing_built : Built
-nothing_built = record { version = One; points = []; current = None; tree = seedling; whole = false; outline = None }
+nothing_built = record { version = One; points = []; current = None; tree = seedling; outline = None }
 
 -- a point is finished where the next one begins
 abbrev pub finished : List Point → Current → MarkedSteps → List Point
@@ -155,7 +153,7 @@ build orders b (lines.Old ns) = record b { current = add_old b.current ns }
 build orders b (lines.Pair ns) = add_ask b (built_pair ns)
 build orders b (lines.Put ns) = add_ask b (built_put ns)
 build orders b (lines.Leaf ns) = record b { tree = add_leaf orders b.tree ns }
-build orders b lines.Done = record (closed b) { whole = true }
+build orders b lines.Done = closed b
 build orders b lines.Cut = record (closed b) { outline = Some [] }
 build orders b lines.Open = add_open_to b b.outline
 build orders b lines.Bare = record b { tree = record b.tree { next = marks.Bare } }

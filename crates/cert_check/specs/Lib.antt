@@ -10,4 +10,8 @@ pub mod Seen
 pub mod Held
 pub mod Endings
 pub mod Building
+pub mod Rebuilt
+pub mod Gathering
 pub mod Cuts
+pub mod Next
+pub mod Parts

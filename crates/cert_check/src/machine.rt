@@ -73,6 +73,13 @@ impl<'m> Machine<'m> {
         self.phase
     }
 
+    // How many orders the mill has.
+    pub(crate) fn orders(&self) -> usize
+        ensures { result ≡ length (seen self.now).mill.orders }
+    {
+        self.mill.orders().len()
+    }
+
     // How the text has ended, with the points.
     pub(crate) fn into_ending(self) -> Ending
         requires { IsOver (seen self).kept.phase }

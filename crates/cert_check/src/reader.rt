@@ -173,6 +173,13 @@ impl<'m> Reader<'m> {
         taken
     }
 
+    // How many orders the mill has.
+    pub(crate) fn orders(&self) -> usize
+        ensures { result ≡ length self.now.reading.mill.orders }
+    {
+        self.machine.orders()
+    }
+
     // The line that the last bytes ended, if it keeps its rules.
     pub(crate) fn last(&self) -> Option<Line<'_>>
         ensures line { result ≡ self.now.last }

@@ -1,0 +1,82 @@
+//! The reader of a cut: bytes come in pieces, and at the end it gives the points with their plans and trees.
+ghost use Rattle.std.specs.Prelude.{◌≡◌, ◌↔◌, ◌++◌, [], ℕ, List, IfOk, IsTrue, is_some, length};
+ghost use Rattle.cert_rules.specs.States.Wanted.{Cuts};
+ghost use Rattle.cert_check.specs.Verdicts.{IsCutRead};
+
+use crate::CutRead;
+use crate::gatherer::Gatherer;
+use mill_model::Mill;
+use std::alloc::{AllocError, Global};
+use std::marker::Model;
+
+/// A reader of a cut that comes in pieces. Beside what a checker keeps, it keeps the points with their plans and trees.
+#[derive(Drop)]
+pub struct CutReader<'m> {
+    gatherer: Gatherer<'m>,
+}
+
+impl<'m> Model for CutReader<'m> {
+    ghost use Rattle.std.specs.Prelude.{◌≡◌};
+    ghost use Rattle.cert_rules.specs.States.Wanted.{Cuts};
+    ghost use Rattle.cert_check.specs.Gathering.{Gathered};
+    ghost use Rattle.cert_check.specs.Parts.{gathered};
+
+    ghost Value = { Gathered };
+
+    ghost view = { λ c. gathered c.gatherer };
+
+    ghost invariant = { λ c. c.gatherer.reader.reading.wanted ≡ Cuts };
+}
+
+impl<'m> CutReader<'m> {
+    ghost use Rattle.cert_check.specs.Cuts.{StandsAsCut, CutHasLessRoom};
+    ghost use Rattle.cert_check.specs.Readings.{HasBadLine};
+
+    /// A reader that was fed nothing.
+    pub fn new(alloc: Global, mill: &'m Mill) -> Result<CutReader<'m>, AllocError>
+        ensures stands { IfOk result (λ c. StandsAsCut c []) }
+        ensures mill { IfOk result (λ c. c.reading.mill ≡ mill.now) }
+    {
+        match Gatherer::new(alloc, mill, true) {
+            Err(error) => Err(error),
+            Ok(gatherer) => Ok(CutReader { gatherer }),
+        }
+    }
+
+    /// Takes more bytes. However they were cut, the reader that is handed back stands for all bytes that it was fed. Unless
+    /// a line is bad, the room that is left falls by as much as is fed, so that feeding ends. After want of memory the
+    /// reader is gone.
+    pub fn feed(self, alloc: Global, piece: &[u8]) -> Result<CutReader<'m>, AllocError>
+        ensures stands { IfOk result (λ c. (bytes : List ℕ) → StandsAsCut self.entry bytes → StandsAsCut c (bytes ++ piece.now)) }
+        ensures room { IfOk result (λ c. (bytes : List ℕ) → StandsAsCut self.entry bytes → CutHasLessRoom self.entry c (length piece.now)) }
+        ensures mill { IfOk result (λ c. c.reading.mill ≡ self.entry.reading.mill) }
+    {
+        let mut gatherer = self.gatherer;
+        match gatherer.feed(alloc, piece) {
+            Err(error) => Err(error),
+            Ok(()) => Ok(CutReader { gatherer }),
+        }
+    }
+
+    /// Whether a line is bad, so that no further bytes make a good cut. A line `done` is one.
+    pub fn failed(&self) -> bool
+        ensures value { result ≡ is_some self.now.reading.failed }
+        ensures exact { (bytes : List ℕ) → StandsAsCut self.now bytes → (IsTrue result ↔ HasBadLine Cuts self.now.reading.mill bytes) }
+    {
+        self.gatherer.failed()
+    }
+
+    /// What the bytes show that the reader was fed: the points of a good cut exactly where they spell one, else the first bad
+    /// line, where `done` can't stand.
+    pub fn end(self) -> CutRead
+        ensures { (bytes : List ℕ) → StandsAsCut self.entry bytes → IsCutRead self.entry.reading.mill bytes result }
+    {
+        match self.gatherer.end() {
+            Err(failure) => CutRead::No {
+                line: failure.line,
+                why: failure.why,
+            },
+            Ok(built) => CutRead::Head(built.into_head()),
+        }
+    }
+}
