@@ -16,7 +16,8 @@ use std::alloc::{AllocError, Global};
 #[derive(Drop)]
 pub struct Done {
     pub answer: &'static str,
-    /// How many columns joined the pool, and one round more.
+    /// How many columns joined the pool, and one more: the rounds of a turn that takes any. It is 1 also for a turn that is
+    /// decided without a round.
     pub rounds: usize,
     pub tally: Tally,
 }

@@ -9,7 +9,7 @@ use Rattle.cert_rules.specs.States.Outcome.{Proved, Unfinished}
 use Rattle.cert_rules.specs.States.State.{Begin, Ended}
 use Rattle.cert_rules.specs.Turns.{after}
 use Rattle.cert_rules.specs.Reading.{IsAccepted}
-use Rattle.cert_rules.specs.Verdicts.{IsVerdict, BeginTheFront, verdict_of}
+use Rattle.cert_rules.specs.Verdicts.{IsVerdict, LeadToTheFront, verdict_of}
 use Rattle.cert_rules.specs.Verdicts.Verdict.{Front, NoPlan, CutOff}
 use Rattle.mill_model.specs.Plans.{Plan, IsLegal}
 use Rattle.mill_model.specs.Fronts.{IsFront}
@@ -53,7 +53,7 @@ module _ (m : Mill) (bytes : List ℕ) where
   on_no_plan (verdicts.Cut points) h = tt
   on_no_plan (verdicts.No line broken) h = tt
 
-  pub on_cut : (v : Verdict) → IsVerdict m bytes (said_of v) → OnCut v (BeginTheFront m None)
+  pub on_cut : (v : Verdict) → IsVerdict m bytes (said_of v) → OnCut v (LeadToTheFront m None)
   on_cut (verdicts.Front points) h = tt
   on_cut verdicts.NoPlan h = tt
   on_cut (verdicts.Cut points) h = verdicts_hold m bytes (CutOff points) h

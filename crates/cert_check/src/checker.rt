@@ -3,7 +3,7 @@ ghost use Rattle.std.specs.Prelude.{◌≡◌, ◌↔◌, ◌++◌, [], ℕ, Lis
 ghost use Rattle.mill_model.specs.Plans.{Plan, IsLegal};
 ghost use Rattle.mill_model.specs.Fronts.{IsFront};
 ghost use Rattle.cert_rules.specs.States.Wanted.{All};
-ghost use Rattle.cert_rules.specs.Verdicts.{IsVerdict, BeginTheFront};
+ghost use Rattle.cert_rules.specs.Verdicts.{IsVerdict, LeadToTheFront};
 ghost use Rattle.cert_check.specs.Verdicts.{said_of, CarriesExceeding, OnFront, OnNoPlan, OnCut, OnNo};
 
 use crate::Verdict;
@@ -87,13 +87,14 @@ impl<'m> Checker<'m> {
 
 /// Checks a certificate. The answer is the one that the bytes have: `Front` exactly where they spell a good whole
 /// certificate with a point, whose points are then the Pareto front; `NoPlan` exactly where they spell one without a point,
-/// and then no plan is legal; `Cut` exactly where they spell a good cut, whose points then begin the front; else `No` with
-/// the first bad line and why.
+/// and then no plan is legal; `Cut` exactly where they spell a good cut: each of its points but the last is then on the
+/// front, and the last has the least loss of the plans with fewer new slabs than the point before; else `No` with the first
+/// bad line and why.
 pub fn check(alloc: Global, mill: &Mill, bytes: &[u8]) -> Result<Verdict, AllocError>
     ensures verdict { IfOk result (λ v. IsVerdict mill.now bytes.now (said_of v)) }
     ensures front { IfOk result (λ v. OnFront v (IsFront mill.now)) }
     ensures no_plan { IfOk result (λ v. OnNoPlan v ((p : Plan) → IsLegal mill.now p → ⊥)) }
-    ensures cut { IfOk result (λ v. OnCut v (BeginTheFront mill.now None)) }
+    ensures cut { IfOk result (λ v. OnCut v (LeadToTheFront mill.now None)) }
     ensures column { IfOk result (λ v. OnNo v (CarriesExceeding mill.now All bytes.now)) }
 {
     let mut checker = Checker::new(alloc, mill)?;

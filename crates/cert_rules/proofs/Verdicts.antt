@@ -17,7 +17,7 @@ use Rattle.cert_rules.specs.States.Wanted.{All}
 use Rattle.cert_rules.specs.States.State.{Begin, Ended}
 use Rattle.cert_rules.specs.Turns.{after}
 use Rattle.cert_rules.specs.Reading.{IsFirstBad}
-use Rattle.cert_rules.specs.Verdicts.{Verdict, Shows, IsVerdict, BeginTheFront, verdict_of}
+use Rattle.cert_rules.specs.Verdicts.{Verdict, Shows, IsVerdict, LeadToTheFront, verdict_of}
 use Rattle.cert_rules.specs.Verdicts.Verdict.{Front, NoPlan, CutOff, Bad}
 use Rattle.cert_rules.specs.Laws.{outcome_of, EndsAreVerdicts, OneVerdict, VerdictsHold}
 use Rattle.cert_rules.proofs.Wholes.{lines_from, accepted_exactly, ends_have_the_points}
@@ -28,15 +28,15 @@ use Rattle.cert_rules.proofs.FirstBad.{one_first_bad_line}
 attained : (m : Mill) (before : Option Sums) (point : Point) → IsGoodPoint m before point → IsAttained m point.sums
 attained m before point good = (point.plan, good.legal, good.sums)
 
-head_begins : (m : Mill) (before : Option Sums) (ps : List Point) → IsGoodFrom m before ps → BeginTheFront m before (sums_list ps)
-head_begins m before [] good = tt
-head_begins m before (x ∷ []) good = (attained m before x good.0, (head_law m before [] x good).1)
-head_begins m before (x ∷ y ∷ ps) good = (attained m before x good.0, (head_law m before (x ∷ []) y (good.0, (good.1.0, tt))).0.0, head_begins m (Some x.sums) (y ∷ ps) good.1)
+head_leads : (m : Mill) (before : Option Sums) (ps : List Point) → IsGoodFrom m before ps → LeadToTheFront m before (sums_list ps)
+head_leads m before [] good = tt
+head_leads m before (x ∷ []) good = (attained m before x good.0, (head_law m before [] x good).1)
+head_leads m before (x ∷ y ∷ ps) good = (attained m before x good.0, (head_law m before (x ∷ []) y (good.0, (good.1.0, tt))).0.0, head_leads m (Some x.sums) (y ∷ ps) good.1)
 
 pub verdicts_hold : VerdictsHold
 verdicts_hold m bytes (Front points) h = subst (λ xs. IsFront m xs) h.2.1 ((what_is_shown_holds m h.0).0 h.2.0)
 verdicts_hold m bytes NoPlan h = (what_is_shown_holds m h.0).1 h.2
-verdicts_hold m bytes (CutOff points) h = subst (λ xs. BeginTheFront m None xs) h.2.1 (head_begins m None h.0.points ((what_is_shown_holds m h.0).2 h.2.0.good))
+verdicts_hold m bytes (CutOff points) h = subst (λ xs. LeadToTheFront m None xs) h.2.1 (head_leads m None h.0.points ((what_is_shown_holds m h.0).2 h.2.0.good))
 verdicts_hold m bytes (Bad n broken) h = tt
 
 -- ---- accepted bytes

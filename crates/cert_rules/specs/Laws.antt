@@ -75,6 +75,6 @@ EndsAreVerdicts = (m : Mill) (bytes : List ℕ) (lines : List Line) (outcome : O
 abbrev pub OneVerdict : Type 0
 OneVerdict = (m : Mill) (bytes : List ℕ) (v w : Verdict) → IsInLimits m → IsVerdict m bytes v → IsVerdict m bytes w → v ≡ w
 
--- a verdict means what it says: the points are the front, no plan is legal, or the points begin the front
+-- a verdict means what it says: the points are the front, no plan is legal, or the points lead to the front
 abbrev pub VerdictsHold : Type 0
 VerdictsHold = (m : Mill) (bytes : List ℕ) (v : Verdict) → IsVerdict m bytes v → Means m v

@@ -36,18 +36,18 @@ IsVerdict m bytes NoPlan = (c : Certificate) × Spells bytes c × Shows m c NoPl
 IsVerdict m bytes (CutOff points) = (c : Certificate) × Spells bytes c × Shows m c (CutOff points)
 IsVerdict m bytes (Bad n broken) = IsFirstBad m All bytes n broken
 
--- points that begin the front, after the one before: each but the last is undominated, and the last has the least loss
+-- points that lead to the front, after the one before: each but the last is undominated, and the last has the least loss
 -- of the attained pairs whose count falls below that of the one before
-abbrev pub BeginTheFront : Mill → Option Sums → List Sums → Type 0
-BeginTheFront m before [] = Unit {0}
-BeginTheFront m before (x ∷ []) = IsAttained m x × ((y : Sums) → IsAttained m y → FallsBelow y.count before → x.loss ≤ y.loss)
-BeginTheFront m before (x ∷ y ∷ ys) = IsAttained m x × IsUndominated m x × BeginTheFront m (Some x) (y ∷ ys)
+abbrev pub LeadToTheFront : Mill → Option Sums → List Sums → Type 0
+LeadToTheFront m before [] = Unit {0}
+LeadToTheFront m before (x ∷ []) = IsAttained m x × ((y : Sums) → IsAttained m y → FallsBelow y.count before → x.loss ≤ y.loss)
+LeadToTheFront m before (x ∷ y ∷ ys) = IsAttained m x × IsUndominated m x × LeadToTheFront m (Some x) (y ∷ ys)
 
 -- what a verdict means for the mill
 abbrev pub Means : Mill → Verdict → Type 0
 Means m (Front points) = IsFront m points
 Means m NoPlan = (p : Plan) → IsLegal m p → ⊥
-Means m (CutOff points) = BeginTheFront m None points
+Means m (CutOff points) = LeadToTheFront m None points
 Means m (Bad n broken) = Unit {0}
 
 -- what is said where a text has ended, with its points

@@ -38,7 +38,8 @@ pub fn one_verdict()
     ensures { OneVerdict }
 {}
 
-/// A verdict means what it says: the points are the Pareto front, or no plan is legal, or the points begin the front.
+/// A verdict means what it says: the points are the Pareto front, or no plan is legal, or each point but the last is on the
+/// front, and the last has the least loss of the plans with fewer new slabs than the point before.
 pub fn verdicts_hold()
     ensures { VerdictsHold }
 {}

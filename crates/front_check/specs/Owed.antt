@@ -2,7 +2,7 @@
 use Rattle.std.specs.Prelude.{◌≡◌, ◌⊎◌, ℕ, ◌≤◌, nat_lt, List, ◌++◌, length, Option, Some, None, Result, Ok, Err, MatchOption, MatchResult}
 use Rattle.std.specs.Bool.{MatchBool}
 use Rattle.std.specs.FinMap.{get}
-use Rattle.slab_desk.specs.Desk.{Told, Files}
+use Rattle.slab_desk.specs.Desk.{Files}
 use Rattle.mill_model.specs.declared.sums.Sums.{Sums}
 use Rattle.mill_model.specs.Mill.{Mill, with_yard}
 use Rattle.mill_model.specs.Plans.{Plan, IsLegal}
@@ -15,7 +15,7 @@ use Rattle.cert_text.specs.Texts.{Spells}
 use Rattle.cert_rules.specs.declared.why.Why.{Why as LineRule}
 use Rattle.cert_rules.specs.States.Wanted.{All}
 use Rattle.cert_rules.specs.Reading.{IsFirstBad}
-use Rattle.cert_rules.specs.Verdicts.{BeginTheFront}
+use Rattle.cert_rules.specs.Verdicts.{LeadToTheFront}
 use Rattle.cert_check.specs.Readings.{HasBadLine}
 use Rattle.front_check.specs.declared.texts.Source.{Source}
 use Rattle.front_check.specs.declared.texts.Source.TheVariants.{Orders, Yard as YardSource}
@@ -69,13 +69,13 @@ pub record ProveFront (m : Mill) (bytes : List ℕ) (points : List Sums) : Type 
   pub points_are : sums_list certificate.points ≡ points
   pub front : IsFront m points
 
--- the bytes spell a good cut with these points, which begin the front
+-- the bytes spell a good cut with these points, which lead to the front
 pub record ShowBeginning (m : Mill) (bytes : List ℕ) (points : List Sums) : Type 0 where
   pub certificate : Certificate
   pub spelled : Spells bytes certificate
   pub shows : ShowsCut m certificate
   pub points_are : sums_list certificate.points ≡ points
-  pub beginning : BeginTheFront m None points
+  pub beginning : LeadToTheFront m None points
 
 -- the bytes spell a good whole certificate without a point, and no plan is legal
 pub record ProveNoPlan (m : Mill) (bytes : List ℕ) : Type 0 where
@@ -120,11 +120,6 @@ IsVerdictStatus status = (status ≡ 0) ⊎ ((status ≡ 3) ⊎ ((status ≡ 4) 
 abbrev pub MayEnd : Parsed CheckWords → ℕ → Type 0
 MayEnd (Err number) status = status ≡ 1
 MayEnd (Ok words) status = (status ≡ 2) ⊎ IsVerdictStatus status
-
--- words that can't stand open no file
-abbrev pub LeavesUnread : Parsed CheckWords → Told → Told → Type 0
-LeavesUnread (Err number) old new = new.left ≡ old.left
-LeavesUnread (Ok words) old new = Unit {0}
 
 -- ---- what is read of a certificate
 

@@ -14,6 +14,9 @@ mod texts;
 mod verdict;
 mod words;
 
+pub use cert_check::{
+    CertRead, Checker, CutRead, Failure, LineWhy, OrderList, Points, Verdict, check,
+};
 pub use laws::one_answer;
 pub use program::check_run;
 pub use words::{CheckJob, CheckUsage, read_check_words};

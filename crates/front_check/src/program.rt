@@ -32,7 +32,7 @@ use std::alloc::Global;
 /// | 0 | the certificate is good and whole: its points are the Pareto front |
 /// | 1 | the words can't stand |
 /// | 2 | the order file or the yard file isn't in its grammar, or is longer than 1,048,576 bytes |
-/// | 3 | the certificate is a good cut: its points begin the front |
+/// | 3 | the certificate is a good cut: each of its points but the last is on the Pareto front, and the last has the least loss of the plans with fewer new slabs than the point before |
 /// | 4 | the certificate is good and whole and has no point: no plan is legal |
 /// | 5 | the outside failed in the last call: the desk's count of faults rose, or stands at its last value; what was said is a beginning of what was to be |
 /// | 6 | memory ran out; only that was said |

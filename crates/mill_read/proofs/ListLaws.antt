@@ -8,10 +8,6 @@ use Rattle.mill_read.specs.declared.fault.TextFault.{TextFault}
 abbrev pub with_front : {A : Type 0} → List A → Read (List A) → Read (List A)
 with_front front read = read >>= λ x. Ok (front ++ x.0, x.1)
 
-pub with_front_none : {A : Type 0} (read : Read (List A)) → with_front [] read ≡ read
-with_front_none (Ok x) = refl
-with_front_none (Err e) = refl
-
 with_front_more : {A : Type 0} (front : List A) (x : A) (read : Read (List A)) → with_front front (read >>= λ xs. Ok (x ∷ xs.0, xs.1)) ≡ with_front (front ++ x ∷ []) read
 with_front_more front x (Ok xs) = ap (λ (l : _). Ok (l, xs.1)) (sym (append_assoc front (x ∷ []) xs.0))
 with_front_more front x (Err e) = refl

@@ -36,11 +36,6 @@ words_begin bytes n le some is end =
     ∙ begins (take n bytes) (drop n bytes) (omega (arith, length-take n bytes)) is
     (λ more. subst (λ (b : ℕ). is_space b ≡ true) (sym (get_or-drop n bytes 0 0 ∙ ap (λ (k : ℕ). get_or bytes k 0) (add-zero n))) (end (omega (arith, length-drop n bytes))))
 
--- a text whose first byte is no space and whose first word is empty is empty
-pub words_none : (bytes : List ℕ) → length bytes ≡ 0 → words bytes ≡ []
-words_none [] h = refl
-words_none (b ∷ bytes) h = absurd (omega arith)
-
 pub digits_more : (word : List ℕ) (i : ℕ) → i < length word → is_number (take i word) ≡ true → is_ascii_digit (get_or word i 0) ≡ true → is_number (take (i + 1) word) ≡ true
 digits_more word i lt before digit = list_all_more is_ascii_digit word i 0 lt ∙ ap (λ (b : Bool). b && is_ascii_digit (get_or word i 0)) before ∙ digit
 

@@ -92,3 +92,40 @@ fn leaves_beside_a_barred_slab(rt: HostRuntime) -> Result<(), Fail> {
     assert!(rt; broken_for(rt.alloc(), 2, false, b"leaf 2 0 0 6 0 0\n")? == Some(Bad::Column));
     Ok(())
 }
+
+// The slab and the number of orders of the column that exceeds a leaf, and none where none does.
+fn exceeding(alloc: Global, text: &[u8]) -> Result<Option<(Kind, usize)>, AllocError> {
+    let mill = mill_of(alloc, 2)?;
+    let mut path = Path::new(alloc, &mill)?;
+    let Some(numbers) = numbers_of(text) else {
+        return Ok(None);
+    };
+    let limits = Limits {
+        loss: Some(2),
+        count: None,
+    };
+    match path.leaf_ok(&mill, limits, &numbers) {
+        Err(Bad::Column) => {
+            let (kind, orders) = path.bad_column();
+            Ok(Some((kind, orders.len())))
+        }
+        _ => Ok(None),
+    }
+}
+
+#[test]
+fn a_column_exceeds_on_the_surplus_slab(rt: HostRuntime) -> Result<(), Fail> {
+    assert!(rt; exceeding(rt.alloc(), b"leaf 2 0 0 6 0 0\n")? == Some((Kind::Old(0), 1)));
+    Ok(())
+}
+
+#[test]
+fn a_question_stands_once_on_a_path(rt: HostRuntime) -> Result<(), Fail> {
+    let mill = mill_of(rt.alloc(), 2)?;
+    let mut path = Path::new(rt.alloc(), &mill)?;
+    assert!(rt; path.push(Ask::Pair(0, 1)));
+    assert!(rt; !path.push(Ask::Pair(0, 1)));
+    path.clear();
+    assert!(rt; path.push(Ask::Pair(0, 1)));
+    Ok(())
+}

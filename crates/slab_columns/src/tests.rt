@@ -21,7 +21,7 @@ fn mill_of_two_orders(alloc: Global) -> Result<Mill, AllocError>
 }
 
 /// The numbers of three columns, of which the first two are the same, and how many columns there are after these two. The third
-/// is noted as basic, twice.
+/// is noted as basic twice, after the first.
 fn add_three(
     alloc: Global,
     pool: &mut Pool,
@@ -32,6 +32,7 @@ fn add_three(
 {
     let both = [0, 1];
     let first = pool.add(alloc, Kind::New(10), &both, fulls)?;
+    pool.note_basic(&[first]);
     let again = pool.add(alloc, Kind::New(10), &both, fulls)?;
     let length = pool.len();
     let other = pool.add(alloc, Kind::New(4), &[1], fulls)?;
@@ -60,7 +61,7 @@ fn columns_keep_their_numbers(rt: HostRuntime) -> Result<(), Fail> {
     let ([first, again, other], length) = add_three(alloc, &mut pool, &mut fulls)?;
     assert!(rt; first == ColId(0) && again == ColId(0) && length == 1 && other == ColId(1));
     assert!(rt; pool.len() == 2 && fulls.count() == 0);
-    assert!(rt; pool.recent() == [ColId(1)].as_slice());
+    assert!(rt; pool.recent() == [ColId(1), ColId(0)].as_slice());
     assert!(rt; has(&pool, Kind::New(10), &[0, 1]) && has(&pool, Kind::New(4), &[1]));
     assert!(rt; !has(&pool, Kind::New(10), &[1]));
     pool.restart();

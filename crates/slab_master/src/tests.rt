@@ -111,6 +111,7 @@ fn lends_a_working_row(rt: HostRuntime) -> Result<(), Fail> {
     let outcome = master.solve(rt.alloc(), &mut wides, &mut stalls)?;
     assert!(rt; is_spread(&outcome, &[(1, 1)]));
     let first = master.row_mut(0).to_vec(rt.alloc())?;
+    assert!(rt; !first.is_empty());
     assert!(rt; !master.row_mut(1).is_empty());
     for cell in master.row_mut(1).iter_mut() {
         *cell = Frac::whole(7);

@@ -21,6 +21,8 @@ struct Case {
     orders: u8,
     /// Whether the mill has two orders of two colours instead, and takes one colour on a slab.
     mixed: bool,
+    /// Whether the mill has an order of weight 10 before three of weight 5 instead.
+    heavy: bool,
     /// Whether there is a surplus slab of size 8, and whether the first order is barred from it.
     surplus: Option<bool>,
     /// What is decided of the first two orders, and of the first order and the surplus slab.
@@ -48,6 +50,7 @@ fn node(size: u8, orders: u8) -> Case {
         size,
         orders,
         mixed: false,
+        heavy: false,
         surplus: None,
         pair: None,
         put: None,
@@ -78,6 +81,13 @@ fn on_surplus(barred: bool) -> Case {
     case
 }
 
+/// An order that fills a slab, and three of which two fill one.
+fn heavy() -> Case {
+    let mut case = node(10, 4);
+    case.heavy = true;
+    case
+}
+
 /// A node with these limits.
 fn within(case: Case, loss: i8, count: i8) -> Case {
     let mut limited = case;
@@ -103,10 +113,28 @@ fn mixed_mill(alloc: Global) -> Result<Mill, AllocError> {
     Ok(mill)
 }
 
+/// A mill of an order of weight 10 before three of weight 5.
+fn heavy_mill(alloc: Global) -> Result<Mill, AllocError> {
+    let first = Order {
+        weight: 10,
+        colour: 1,
+    };
+    let other = Order {
+        weight: 5,
+        colour: 1,
+    };
+    let sizes = vec![in alloc; 10]?;
+    let orders = vec![in alloc; first, other, other, other]?;
+    Ok(Mill::new(sizes, 1, orders))
+}
+
 /// The mill of a case. It has a size of at least 1 and at most 100 orders.
 fn mill_of(alloc: Global, case: Case) -> Result<Mill, AllocError> {
     if case.mixed {
         return mixed_mill(alloc);
+    }
+    if case.heavy {
+        return heavy_mill(alloc);
     }
     let order = Order {
         weight: 5,
@@ -222,6 +250,8 @@ fn turns(rt: HostRuntime) -> Result<(), Fail> {
     assert_eq!(rt; answer(rt.alloc(), within(node(10, 3), 4, FREE))?, first);
     let together = within(split(10, 3, true), 4, FREE);
     assert!(rt; matches!(answer(rt.alloc(), together)?, Short::Refuted(_, _)));
+    let halves = Short::Spread(Ask::Pair(1, 2));
+    assert_eq!(rt; answer(rt.alloc(), within(heavy(), 4, FREE))?, halves);
     assert_eq!(rt; answer(rt.alloc(), node(10, 2))?, Short::InBox(0, 1));
     assert_eq!(rt; answer(rt.alloc(), node(4, 1))?, Short::Refuted(0, 0));
     let plain = within(node(10, 3), FREE, 1);

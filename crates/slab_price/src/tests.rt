@@ -114,6 +114,12 @@ fn passes_over_a_barred_order(rt: HostRuntime) -> Result<(), Fail> {
 }
 
 #[test]
+fn leaves_out_an_order_of_negative_price(rt: HostRuntime) -> Result<(), Fail> {
+    assert!(rt; found_for(rt.alloc(), 3, false, 0, -5, 9)? == (5, 2, Kind::New(9)));
+    Ok(())
+}
+
+#[test]
 fn finds_nothing_that_costs_as_much(rt: HostRuntime) -> Result<(), Fail> {
     assert!(rt; found_for(rt.alloc(), 2, false, 20, 4, 4)? == (0, 0, Kind::New(0)));
     Ok(())

@@ -1,8 +1,8 @@
 // A run, by the status with which the program ends.
-ghost use Rattle.std.specs.Prelude.{◌≡◌, ◌≢◌, ◌⊎◌, ◌↔◌, ◌≤◌, IsTrue, map};
+ghost use Rattle.std.specs.Prelude.{◌≡◌, ◌≢◌, ◌⊎◌, ◌↔◌, ◌<◌, ◌≤◌, IsTrue, map};
 ghost use Rattle.std.specs.Process.{exit_status};
 ghost use Rattle.std.specs.String.{string_bytes};
-ghost use Rattle.slab_counter.specs.Counter.{Rose};
+ghost use Rattle.slab_counter.specs.Counter.{Rose, last_count};
 ghost use Rattle.slab_desk.specs.Desk.{Steps};
 ghost use Rattle.front_check.specs.Words.{check_words};
 ghost use Rattle.front_check.specs.Outcomes.{Ran};
@@ -25,6 +25,7 @@ pub(crate) fn ended<D: Desk>(alloc: Global, words: &[String], desk: &mut D) -> E
     ensures later { D.faults desk.old ≤ D.faults desk.new }
     ensures stopped { (exit_status result ≡ 5) ↔ IsTrue (D.stopped desk.new) }
     ensures kept { exit_status result ≢ 5 → D.faults desk.new ≡ D.faults desk.old }
+    ensures rose { D.faults desk.old < last_count → ((exit_status result ≡ 5) ↔ (D.faults desk.old < D.faults desk.new)) }
 {
     ExitCode::from(check_run(alloc, words, desk))
 }

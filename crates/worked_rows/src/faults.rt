@@ -86,6 +86,7 @@ fn what_is_left_of_a_fault(rt: HostRuntime) -> Result<(), Fail> {
     let stored = "slabfront 2\npoint 0 1\nnew 10 1 2\nleaf 1 0 0 0\ndone\nleaf 0 10 5 5\n";
     for (act, text) in [(Act::Create, None), (Act::Say, Some(stored))] {
         let Some(short) = failing_row(rt.alloc(), "solve orders cert", files, act, 1)? else {
+            assert!(rt; false);
             continue;
         };
         let text = text.map(|text: &str| text.as_bytes());

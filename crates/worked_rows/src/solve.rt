@@ -113,7 +113,7 @@ fn points() -> [(&'static str, &'static str, &'static str, &'static str); 6] {
             " --yard yard",
             "front 1\npoint 0 0\nold 1 1 2\nnodes ",
         ),
-        (TWO, "1 8 1 2 1", " --yard yard", "front 2\npoint 0 2\n"),
+        (TWO, "1 8 1 2 1", " --yard yard", both),
         (
             "1 10 1 5 5 1 5 1 5 1 5 1 5 1",
             "",

@@ -26,6 +26,8 @@ fn words_that_can_not_stand_are_named(rt: HostRuntime) -> Result<(), Fail> {
         let row = run_row(rt.alloc(), words, files)?;
         assert_eq!(rt; row.said.as_slice(), said.as_bytes(), "{words}");
         assert_eq!(rt; row.status, 1, "{words}");
+        assert_eq!(rt; row.faults, 0, "{words}");
+        assert!(rt; row.stored.is_none(), "{words}");
     }
     Ok(())
 }
