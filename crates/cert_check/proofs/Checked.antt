@@ -1,11 +1,11 @@
 -- What a checker says where a text has ended, and what this means.
-use Rattle.std.proofs.Common.{◌≡◌, ℕ, List, [], ◌∷◌, length, reverse, None, refl, sym, subst, arith}
+use Rattle.std.proofs.Common.{◌≡◌, ℕ, List, [], ◌∷◌, length, reverse, None, refl, subst, arith}
 use Rattle.std.proofs.lemmas.List.{reverse-reverse}
 use Rattle.mill_model.specs.declared.sums.Sums.{Sums}
 use Rattle.mill_model.specs.Mill.{Mill, IsInLimits}
 use Rattle.cert_rules.specs.States.{Wanted}
 use Rattle.cert_rules.specs.States.Wanted.{All}
-use Rattle.cert_rules.specs.States.Outcome.{Proved, Unfinished}
+use Rattle.cert_rules.specs.States.Outcome.{Proved}
 use Rattle.cert_rules.specs.States.State.{Begin, Ended}
 use Rattle.cert_rules.specs.Turns.{after}
 use Rattle.cert_rules.specs.Reading.{IsAccepted}

@@ -1,5 +1,5 @@
 -- What a reader stands for that keeps what it reads.
-use Rattle.std.proofs.Common.{◌≡◌, ◌⊎◌, ◌↔◌, ℕ, ◌+◌, ◌<◌, ◌≤◌, inl, inr, Bool, true, false, IsTrue, List, [], ◌∷◌, ◌++◌, length, take, drop, Option, Some, None, is_some, refl, sym, ap, ap₂, ◌∙◌, subst, arith, append_assoc, append-nil, length-append}
+use Rattle.std.proofs.Common.{◌≡◌, ◌⊎◌, ℕ, ◌+◌, ◌≤◌, inl, inr, Bool, true, false, List, [], ◌∷◌, ◌++◌, length, take, drop, Option, Some, None, is_some, refl, sym, ap, ◌∙◌, subst, arith, append_assoc, append-nil, length-append}
 use Rattle.std.specs.List.{AllByRecursion}
 use Rattle.std.proofs.lemmas.Bool.{false≢true}
 use Rattle.std.proofs.lemmas.List.{take-append-drop, append_cancel_right}
@@ -7,7 +7,6 @@ use Rattle.std.proofs.Math.Seq.{take-add, take-length}
 use Rattle.mill_model.specs.Mill.{Mill, IsInLimits}
 use Rattle.cert_view.specs.declared.line.Line.{Line}
 use Rattle.cert_view.specs.Text.{line_text, IsLine}
-use Rattle.cert_text.specs.Lines.{certificate_lines}
 use Rattle.cert_text.specs.Texts.{lines_text, IsReadable}
 use Rattle.cert_text.proofs.Texts.{goes_on, GoesOn}
 use Rattle.cert_rules.specs.States.{Wanted}
@@ -21,8 +20,7 @@ use Rattle.cert_check.specs.Building.{Built, nothing_built, build, build_all}
 use Rattle.cert_check.specs.Endings.{HasAccepted}
 use Rattle.cert_check.specs.Gathering.{Gathered, Builds, GathersBy, Gathers, IsBuiltFrom}
 use Rattle.cert_check.specs.Held.{IsMoved}
-use Rattle.cert_check.specs.Readings.{Reading, Runs, Fails, Stands, StandsBy, HasBadLine, HasLessRoom, room}
-use Rattle.cert_check.specs.Verdicts.{IsBadAt}
+use Rattle.cert_check.specs.Readings.{Runs, Fails, Stands, StandsBy, HasLessRoom, room}
 use Rattle.cert_check.specs.Whys.{why_of}
 use Rattle.cert_check.proofs.HeldLines.{fails_more}
 use Rattle.cert_check.proofs.Rebuilding.{build_append, lines_build_back}

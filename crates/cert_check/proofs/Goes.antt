@@ -1,5 +1,5 @@
 -- What becomes of what is kept, line by line.
-use Rattle.std.proofs.Common.{◌≡◌, ◌⊎◌, ℕ, ◌<◌, ℤ, pos, ◌≤ℤ◌, unsigned_abs, Bool, true, false, inl, inr, List, [], ◌∷◌, ◌++◌, length, reverse, Option, Some, None, Result, Ok, Err, refl, sym, ap, ap₂, ◌∙◌, subst}
+use Rattle.std.proofs.Common.{◌≡◌, ◌⊎◌, ℤ, unsigned_abs, Bool, true, false, inl, inr, List, [], ◌∷◌, ◌++◌, reverse, Some, None, Result, Ok, Err, refl, sym, ap, ◌∙◌, subst}
 use Rattle.mill_model.specs.declared.sums.Sums.{Sums}
 use Rattle.mill_model.specs.declared.version.Version.{Version}
 use Rattle.mill_model.specs.declared.version.Version.TheVariants.{One, Two}
@@ -14,25 +14,23 @@ use Rattle.cert_rules.specs.declared.why.Why.{Why}
 use Rattle.cert_rules.specs.declared.why.Why.TheVariants as why
 use Rattle.cert_rules.specs.Rules.{Rule, AllKept, FirstBroken}
 use Rattle.cert_rules.specs.Numbers.{number_at}
-use Rattle.cert_rules.specs.States.{Wanted, Owner, Goal, Stage, State, Outcome, latest, limits_of, tree_limits, after_owner, after_tree, branch_or}
+use Rattle.cert_rules.specs.States.{Goal, State, latest, limits_of, tree_limits, after_owner, after_tree, branch_or}
 use Rattle.cert_rules.specs.States.Wanted.{All, Cuts}
-use Rattle.cert_rules.specs.States.Owner.{OfPoint, OfRest}
+use Rattle.cert_rules.specs.States.Owner.{OfPoint}
 use Rattle.cert_rules.specs.States.Outcome.{Proved, Unfinished}
 use Rattle.cert_rules.specs.States.Stage.{Begins, Marked, InSpread}
 use Rattle.cert_rules.specs.States.State.{Begin, BetweenPoints, InPlan, InTree, InOpenTree, Ended}
 use Rattle.cert_rules.specs.Leaves.{leaf_rules}
 use Rattle.cert_rules.specs.Slabs.{sums_of_line, point_rules, new_slab, new_rules, old_slab, old_rules, plan_rules}
 use Rattle.cert_rules.specs.Spreads.{spread_rules, share_of_new, new_share_rules, share_of_old, old_share_rules, cover_rules}
-use Rattle.cert_rules.specs.Turns.{Turn, rules_of, next_of, turn, turn_to_ask, turn_to_leaf, turn_at_start, turn_in_spread, turn_in_plan, turn_in_tree, turn_between, turn_at_begin, turn_after_shares, turn_in_open_tree, line_rules, line_next, with_rules}
+use Rattle.cert_rules.specs.Turns.{Turn, rules_of, next_of, turn, turn_to_ask, turn_to_leaf, turn_at_start, turn_in_spread, turn_in_plan, turn_between, turn_at_begin, turn_after_shares, turn_in_open_tree, line_rules, line_next, with_rules}
 use Rattle.cert_rules.specs.Turns.Turn.{Refused, Taken}
 use Rattle.cert_rules.proofs.Steps.{with_back}
-use Rattle.cert_slabs.specs.Drafts.{Draft, IsDraft}
-use Rattle.cert_slabs.specs.Tallies.{Tally, IsTally}
-use Rattle.cert_check.specs.declared.phase.Phase.{Phase}
+use Rattle.cert_slabs.specs.Drafts.{IsDraft}
+use Rattle.cert_slabs.specs.Tallies.{IsTally}
 use Rattle.cert_check.specs.declared.phase.Phase.TheVariants as phases
 use Rattle.cert_check.specs.Kept.{Kept, Keeps, is_rest, owner_of}
 use Rattle.cert_check.specs.Lines.{can_begin, IsNoSlab, IsNoLeaf, IsNoShare, IsNoOpen, is_ask, IsAsked, IsNotAsked}
-use Rattle.cert_check.specs.Verdicts.{path_of}
 use Rattle.cert_check.specs.Readings.{Machine, GoesOn, IsRefused, IsTurn}
 use Rattle.cert_check.proofs.States.{goal_of, begin_state, between_state, IsPlanState, plan_state, tree_state, question_state, IsSpreadState, spread_state, open_state, proved_state, unfinished_state}
 

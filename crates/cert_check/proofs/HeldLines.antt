@@ -1,5 +1,5 @@
 -- A held line: what has become of it, and for which bytes the reader then stands.
-use Rattle.std.proofs.Common.{◌≡◌, ℕ, ◌+◌, ◌-◌, ◌*◌, ◌^◌, ◌<◌, ◌≤◌, ℤ, inl, inr, List, [], ◌∷◌, ◌++◌, length, min, Option, Some, None, Result, Ok, Err, refl, sym, ap, ◌∙◌, subst, arith, append_assoc}
+use Rattle.std.proofs.Common.{◌≡◌, ℕ, ◌+◌, ◌-◌, ◌*◌, ◌^◌, ◌<◌, ◌≤◌, inl, inr, List, [], ◌∷◌, ◌++◌, length, min, Option, Some, None, Result, Ok, Err, refl, sym, ap, ◌∙◌, subst, arith, append_assoc}
 use Rattle.mill_model.specs.declared.kind.Kind.{Kind}
 use Rattle.mill_model.specs.Mill.{Mill}
 use Rattle.mill_model.specs.Columns.{Column}
@@ -7,7 +7,7 @@ use Rattle.cert_view.specs.declared.line.Line.{Line}
 use Rattle.cert_view.specs.declared.line.Line.TheVariants as lines
 use Rattle.cert_view.specs.declared.line.Spelling.{Spelling}
 use Rattle.cert_view.specs.declared.line.Spelling.TheVariants as spellings
-use Rattle.cert_view.specs.Held.{IsPart, IsWhole}
+use Rattle.cert_view.specs.Held.{IsPart}
 use Rattle.cert_view.specs.Line.{next_line, after_line}
 use Rattle.cert_view.specs.Text.{line_text}
 use Rattle.cert_view.specs.Laws.{BeginsWith}
@@ -19,14 +19,13 @@ use Rattle.cert_rules.specs.declared.why.Why.{Why}
 use Rattle.cert_rules.specs.declared.why.Why.TheVariants as why
 use Rattle.cert_rules.specs.States.{Wanted, State}
 use Rattle.cert_rules.specs.States.State.{Begin}
-use Rattle.cert_rules.specs.Turns.{after}
 use Rattle.cert_rules.specs.Reading.{Reads, IsBadLine, number_after}
 use Rattle.cert_rules.proofs.Standing.{failures_stay}
 use Rattle.cert_rules.specs.States.Outcome.{Proved, Unfinished}
 use Rattle.cert_rules.specs.States.State.{BetweenPoints, InPlan, InTree, InOpenTree, Ended}
 use Rattle.cert_rules.specs.Turns.{line_next}
 use Rattle.cert_rules.specs.Stands.{HasFailed}
-use Rattle.cert_rules.specs.Stands.Progress.{Running, Failed}
+use Rattle.cert_rules.specs.Stands.Progress.{Running}
 use Rattle.cert_rules.proofs.Room.{room_falls}
 use Rattle.cert_check.specs.declared.failure.Failure.{Failure}
 use Rattle.cert_check.specs.declared.line_why.LineWhy.{LineWhy}
@@ -36,7 +35,7 @@ use Rattle.cert_check.specs.declared.phase.Phase.TheVariants as phases
 use Rattle.cert_check.specs.Whys.{why_of}
 use Rattle.cert_check.specs.Verdicts.{ExceedsAt, CarriesExceeding, path_of}
 use Rattle.cert_check.specs.Kept.{Kept, Keeps}
-use Rattle.cert_check.specs.Readings.{Reading, Machine, Runs, Fails, HasLessRoom, phase_room, CarriesFor, HasFound, IsSameReader, IsBadHeld, IsGoodHeld, IsRefusedHeld}
+use Rattle.cert_check.specs.Readings.{Reading, Machine, Runs, Fails, HasLessRoom, phase_room, CarriesFor, IsSameReader, IsBadHeld, IsGoodHeld, IsRefusedHeld}
 use Rattle.cert_check.specs.Held.{CarriesColumn, IsOver}
 use Rattle.cert_check.proofs.Readings.{not_ended, part_taken, line_taken, bad_taken, extra_after_proved, extra_after_cut, room_is}
 

@@ -1,17 +1,15 @@
 -- What a reader stands for: a line more, and what it says at the end.
-use Rattle.std.proofs.Common.{◌≡◌, ◌↔◌, ◌⊎◌, ℕ, zero, suc, ◌+◌, ◌-◌, ◌*◌, ◌<◌, ◌≤◌, ℤ, unsigned_abs, Bool, true, false, cond, List, [], ◌∷◌, ◌++◌, length, reverse, get_or, Option, Some, None, Result, Ok, Err, refl, sym, ap, ap₂, ◌∙◌, subst, arith, inl, inr}
-use Rattle.std.specs.List.{list_any}
+use Rattle.std.proofs.Common.{◌≡◌, ◌↔◌, ◌⊎◌, ℕ, zero, suc, ◌+◌, ◌-◌, ◌*◌, ◌<◌, ℤ, unsigned_abs, false, cond, List, [], ◌∷◌, ◌++◌, length, reverse, get_or, Option, Some, None, Ok, refl, sym, ap, ap₂, ◌∙◌, subst, arith, inl, inr}
 use Rattle.std.proofs.lemmas.List.{reverse-reverse}
 use Rattle.mill_model.specs.declared.sums.Sums.{Sums}
 use Rattle.mill_model.specs.Mill.{Mill, IsInLimits}
-use Rattle.mill_model.specs.Columns.{Column, has}
 use Rattle.cert_view.specs.declared.line.Line.{Line}
 use Rattle.cert_view.specs.Line.{next_line}
 use Rattle.cert_view.specs.Held.{IsPart, IsWhole}
 use Rattle.cert_rules.specs.declared.why.Why.{Why}
 use Rattle.cert_rules.specs.declared.why.Why.TheVariants as why
 use Rattle.cert_rules.specs.Rules.{AllKept}
-use Rattle.cert_rules.specs.States.{Wanted, Owner, Stage, State, Outcome}
+use Rattle.cert_rules.specs.States.{Wanted, Owner, State, Outcome}
 use Rattle.cert_rules.specs.States.Wanted.{All}
 use Rattle.cert_rules.specs.States.Owner.{OfPoint, OfRest}
 use Rattle.cert_rules.specs.States.Outcome.{Proved, Unfinished}
@@ -27,9 +25,8 @@ use Rattle.cert_rules.specs.Spreads.{covered}
 use Rattle.mill_model.specs.Decisions.{Decision}
 use Rattle.cert_rules.proofs.Standing.{pieces_are_taken, ends_are_right, running_is_no_failure}
 use Rattle.cert_rules.proofs.Verdicts.{ends_are_verdicts}
-use Rattle.cert_check.specs.declared.phase.Phase.{Phase}
 use Rattle.cert_check.specs.declared.phase.Phase.TheVariants as phases
-use Rattle.cert_check.specs.Kept.{Kept, Keeps, IsStage, is_rest}
+use Rattle.cert_check.specs.Kept.{Kept, Keeps, is_rest}
 use Rattle.cert_check.specs.declared.failure.Failure.{Failure}
 use Rattle.cert_check.specs.Whys.{why_of}
 use Rattle.cert_check.specs.Readings.{Reading, Runs, Stands, StandsBy, HasBadLine, phase_room, tree_room}

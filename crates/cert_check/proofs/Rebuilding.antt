@@ -1,5 +1,5 @@
 -- The lines of a good certificate build it back.
-use Rattle.std.proofs.Common.{◌≡◌, ℕ, suc, ◌+◌, ◌<◌, ◌≤◌, ℤ, pos, Bool, true, false, List, [], ◌∷◌, ◌++◌, map, length, take, drop, Option, Some, None, refl, sym, ap, ap₂, ◌∙◌, subst, arith, append_assoc, append-nil}
+use Rattle.std.proofs.Common.{◌≡◌, ℕ, suc, ◌+◌, ◌<◌, ◌≤◌, ℤ, pos, true, false, List, [], ◌∷◌, ◌++◌, map, length, take, drop, Option, Some, None, refl, sym, ap, ap₂, ◌∙◌, subst, arith, append_assoc, append-nil}
 use Rattle.std.specs.List.{flat_map, AllByRecursion}
 use Rattle.std.proofs.lemmas.List.{map-append}
 use Rattle.std.proofs.lemmas.List.FromFn.{length-map-range_with_len}
@@ -31,15 +31,14 @@ use Rattle.mill_model.specs.Trees.Tree.{End, Split}
 use Rattle.mill_model.proofs.Slabs.{places_rise}
 use Rattle.mill_model.proofs.Judging.{slabs_with_orders}
 use Rattle.cert_view.specs.declared.line.Line.{Line}
-use Rattle.cert_view.specs.declared.line.Line.TheVariants as lines
-use Rattle.cert_text.specs.Certificates.{Ending, Certificate, IsGood, IsGoodEnded, AreMarksOf, last_tree}
+use Rattle.cert_text.specs.Certificates.{Ending, IsGoodEnded, AreMarksOf, last_tree}
 use Rattle.cert_text.specs.Certificates.Ending.{Whole, Cut}
-use Rattle.cert_text.specs.Lines.{number, header_line, ask_line, leaf_line, share_line, share_line_on, mark_lines, tree_lines, marked_lines, outline_line, sums_line, slab_line, slab_line_on, columns_of, point_lines, ending_lines, certificate_lines}
+use Rattle.cert_text.specs.Lines.{header_line, ask_line, leaf_line, share_line, share_line_on, mark_lines, tree_lines, marked_lines, outline_line, slab_line, slab_line_on, columns_of, point_lines, ending_lines}
 use Rattle.cert_text.proofs.Trees.{tree_is}
 use Rattle.cert_text.proofs.Plans.{nothing, column_at}
 use Rattle.cert_rules.proofs.LeafLines.{numbers_of}
 use Rattle.cert_rules.proofs.SumLines.{few_new, small_loss}
-use Rattle.cert_check.specs.Building.{Growing, Built, Current, seedling, nothing_built, empty_plan, add_slab, built_sums, closed, build, build_all}
+use Rattle.cert_check.specs.Building.{Built, Current, seedling, nothing_built, empty_plan, add_slab, built_sums, closed, build, build_all}
 use Rattle.cert_check.specs.Rebuilt.{LinesBuildBack, built_of}
 use Rattle.cert_check.proofs.Slabbing.{index16_number, natural16_small, loss_small, orders16_rising, size_small, add_slabs, slabs_make_plan}
 

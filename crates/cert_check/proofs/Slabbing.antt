@@ -1,21 +1,19 @@
 -- Slabs, one after another, make the plan that they are of.
-use Rattle.std.proofs.Common.{◌≡◌, ◌||◌, ℕ, zero, suc, ◌+◌, ◌<◌, ◌≤◌, ◌^◌, ℤ, pos, Bool, true, false, cond, eqb, set, List, [], ◌∷◌, ◌++◌, map, length, get_or, take, drop, All, w64, to_z, of_z, rules, ◌-◌, replicate, refl, sym, ap, ap₂, ◌∙◌, subst, arith, append_assoc, append-nil, inl, inr}
+use Rattle.std.proofs.Common.{◌≡◌, ◌||◌, ℕ, zero, suc, ◌+◌, ◌<◌, ◌≤◌, ◌^◌, ℤ, pos, Bool, true, false, cond, eqb, set, List, [], ◌∷◌, ◌++◌, map, length, get_or, take, drop, All, w64, to_z, of_z, rules, ◌-◌, refl, sym, ap, ap₂, ◌∙◌, subst, arith, append_assoc, append-nil, inl, inr}
 use Rattle.std.specs.List.{range_with_len}
 use Rattle.std.proofs.lemmas.List.{length-set, get_or-set_same, get_or-set_other, ext_get_or, length-append, length-replicate, take_all}
-use Rattle.std.proofs.lemmas.Bool.{cases_Bool, cases_lt, eqb-true, eq-eqb, eqb-false}
+use Rattle.std.proofs.lemmas.Bool.{cases_Bool, eqb-true, eqb-false}
 use Rattle.std.proofs.lemmas.List.Elements.{All-weaker, All-get_or, All-take, All-drop}
 use Rattle.std.proofs.lemmas.Int.{ints}
 use Rattle.std.proofs.Math.Facts.{to_z-of_z}
 use Rattle.mill_model.specs.Prices.{IsPrice, ArePrices, prices_of}
 use Rattle.cert_view.specs.Number.{IsWithin}
-use Rattle.mill_model.specs.declared.kind.Kind.{Kind}
-use Rattle.mill_model.specs.declared.kind.Kind.TheVariants.{New, Old}
+use Rattle.mill_model.specs.declared.kind.Kind.TheVariants.{New}
 use Rattle.mill_model.specs.Mill.{Mill, IsInLimits, IsBetween}
 use Rattle.mill_model.specs.Columns.{Column, Rises, has, IsInStock}
 use Rattle.mill_model.specs.Plans.{Plan, IsLegal, IsInOrder, slab}
-use Rattle.mill_model.proofs.Slabs.{has_order, on_a_slab, places_rise}
+use Rattle.mill_model.proofs.Slabs.{has_order, on_a_slab}
 use Rattle.cert_text.specs.Lines.{number, columns_of}
-use Rattle.cert_rules.specs.Numbers.{index, natural}
 use Rattle.cert_rules.specs.Slabs.{kinds_of}
 use Rattle.cert_rules.proofs.Asks.{index_number}
 use Rattle.cert_rules.proofs.Slabs.{slabs_from_plan}

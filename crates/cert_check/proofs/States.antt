@@ -4,16 +4,14 @@ use Rattle.mill_model.specs.declared.sums.Sums.{Sums}
 use Rattle.mill_model.specs.declared.version.Version.{Version}
 use Rattle.mill_model.specs.Mill.{Mill}
 use Rattle.mill_model.specs.Columns.{Column}
-use Rattle.mill_model.specs.Decisions.{Decision}
 use Rattle.mill_model.specs.Shares.{Share}
-use Rattle.cert_rules.specs.States.{Owner, Goal, Stage, State, Outcome}
+use Rattle.cert_rules.specs.States.{Owner, Goal, State}
 use Rattle.cert_rules.specs.States.Owner.{OfPoint, OfRest}
 use Rattle.cert_rules.specs.States.Outcome.{Proved, Unfinished}
 use Rattle.cert_rules.specs.States.Stage.{Begins, Marked, InSpread}
 use Rattle.cert_rules.specs.States.State.{Begin, BetweenPoints, InPlan, InTree, InOpenTree, Ended}
 use Rattle.cert_slabs.specs.Drafts.{IsDraft}
 use Rattle.cert_slabs.specs.Tallies.{IsTally}
-use Rattle.cert_check.specs.declared.phase.Phase.{Phase}
 use Rattle.cert_check.specs.declared.phase.Phase.TheVariants as phases
 use Rattle.cert_check.specs.Kept.{Kept, Keeps, is_rest, owner_of}
 

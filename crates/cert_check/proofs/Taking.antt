@@ -1,5 +1,5 @@
 -- What a reader stands for that has taken some bytes, and how much more it can take.
-use Rattle.std.proofs.Common.{◌≡◌, ◌⊎◌, ◌↔◌, ℕ, ◌+◌, ◌<◌, ◌≤◌, inl, inr, if◌then◌else◌, Bool, true, false, IsTrue, List, [], ◌∷◌, ◌++◌, length, take, drop, Option, Some, None, is_some, Result, Ok, Err, refl, sym, ap, ◌∙◌, subst, arith, append_assoc, append-nil}
+use Rattle.std.proofs.Common.{◌≡◌, ◌⊎◌, ℕ, ◌+◌, ◌<◌, ◌≤◌, inl, inr, if◌then◌else◌, Bool, true, false, List, [], ◌∷◌, ◌++◌, length, take, drop, Option, Some, None, is_some, Result, Ok, Err, refl, sym, ap, ◌∙◌, subst, arith, append_assoc, append-nil}
 use Rattle.std.proofs.lemmas.List.{take-append-drop, length-take-le}
 use Rattle.std.proofs.Math.Seq.{take-add, take-length}
 use Rattle.mill_model.specs.Mill.{Mill}
@@ -7,11 +7,9 @@ use Rattle.mill_model.specs.Columns.{Column}
 use Rattle.cert_view.specs.declared.line.Line.{Line}
 use Rattle.cert_view.specs.Held.{IsPart}
 use Rattle.cert_view.specs.Line.{next_line, after_line}
-use Rattle.cert_view.specs.Text.{line_text}
 use Rattle.cert_view.specs.Laws.{BeginsWith}
 use Rattle.cert_view.proofs.Feeds.{read_is_text}
 use Rattle.cert_view.proofs.Buffers.{whole_is_text}
-use Rattle.cert_text.specs.Texts.{IsReadable}
 use Rattle.cert_rules.specs.States.{Wanted}
 use Rattle.cert_rules.specs.declared.why.Why.{Why}
 use Rattle.cert_rules.specs.Reading.{number_after}
@@ -20,8 +18,7 @@ use Rattle.cert_check.specs.declared.line_why.LineWhy.{LineWhy}
 use Rattle.cert_check.specs.declared.line_why.LineWhy.TheVariants as carried
 use Rattle.cert_check.specs.Whys.{why_of}
 use Rattle.cert_check.specs.Held.{Reader, CarriesColumn, IsOver, IsMoved, line_of_read}
-use Rattle.cert_check.specs.Readings.{Reading, Machine, Stands, StandsBy, Runs, Fails, HasLessRoom, HasBadLine, room, IsSameReader, IsGoodHeld, IsBadHeld, IsRefusedHeld, IsStep}
-use Rattle.cert_check.proofs.Readings.{runs_has_no_bad_line}
+use Rattle.cert_check.specs.Readings.{Reading, Machine, Stands, StandsBy, Runs, Fails, HasLessRoom, room, IsSameReader, IsGoodHeld, IsBadHeld, IsRefusedHeld, IsStep}
 use Rattle.cert_check.proofs.HeldLines.{reading_of, refused_is_bad, fails_more, extra_stands, part_stands, part_room, line_stands, line_room, bad_stands}
 
 -- ---- a reader and its machine

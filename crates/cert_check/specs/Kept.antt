@@ -4,7 +4,7 @@ use Rattle.mill_model.specs.declared.sums.Sums.{Sums}
 use Rattle.mill_model.specs.declared.version.Version.{Version}
 use Rattle.mill_model.specs.Mill.{Mill}
 use Rattle.mill_model.specs.Decisions.{Decision}
-use Rattle.cert_rules.specs.States.{Owner, Goal, Stage, State, Outcome}
+use Rattle.cert_rules.specs.States.{Owner, Stage, State}
 use Rattle.cert_rules.specs.States.Owner.{OfPoint, OfRest}
 use Rattle.cert_rules.specs.States.Outcome.{Proved, Unfinished}
 use Rattle.cert_rules.specs.States.Stage.{Begins, Marked, InSpread}

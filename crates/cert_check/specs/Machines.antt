@@ -1,5 +1,5 @@
 -- The line machine as contracts see it.
-use Rattle.std.specs.Prelude.{◌≡◌, ℕ, List, length}
+use Rattle.std.specs.Prelude.{◌≡◌, length}
 use Rattle.mill_model.specs.Mill.{Mill}
 use Rattle.cert_slabs.specs.Drafts.{Draft}
 use Rattle.cert_slabs.specs.Tallies.{Tally}

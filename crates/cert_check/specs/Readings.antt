@@ -1,5 +1,5 @@
 -- For which bytes a reader stands, and how much more it can take.
-use Rattle.std.specs.Prelude.{◌≡◌, ◌⊎◌, ℕ, ◌+◌, ◌-◌, ◌*◌, ◌≤◌, ℤ, unsigned_abs, Bool, true, false, cond, List, [], ◌++◌, length, reverse, slice_index, slice_index_or, Option, Some, None, is_some, Result, Ok, Err}
+use Rattle.std.specs.Prelude.{◌≡◌, ◌⊎◌, ℕ, ◌+◌, ◌-◌, ◌*◌, ◌≤◌, ℤ, unsigned_abs, Bool, true, false, cond, List, [], length, reverse, slice_index, slice_index_or, Option, Some, None, is_some, Result, Ok, Err}
 use Rattle.mill_model.specs.Mill.{Mill}
 use Rattle.cert_rules.specs.States.{Wanted, State}
 use Rattle.cert_rules.specs.States.Wanted.{All, Cuts}

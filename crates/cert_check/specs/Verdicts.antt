@@ -1,11 +1,9 @@
 -- What a check answers, and what it means.
 use Rattle.std.specs.Prelude.{◌≡◌, ℕ, ℤ, List, [], length, Some, Ok}
-use Rattle.mill_model.specs.declared.kind.Kind.{Kind}
 use Rattle.mill_model.specs.declared.sums.Sums.{Sums}
 use Rattle.mill_model.specs.Mill.{Mill}
 use Rattle.mill_model.specs.Columns.{Column}
 use Rattle.mill_model.specs.Decisions.{Decision}
-use Rattle.mill_model.specs.Fronts.{Point}
 use Rattle.cert_view.specs.declared.line.Line.{Line}
 use Rattle.cert_view.specs.declared.line.Line.TheVariants as lines
 use Rattle.cert_view.specs.Line.{next_line}

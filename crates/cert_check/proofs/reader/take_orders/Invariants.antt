@@ -1,4 +1,4 @@
-use Rattle.std.proofs.Common.{◌≡◌, ◌≤◌, length, take, vec_capacity}
+use Rattle.std.proofs.Common.{◌≡◌, ◌≤◌, take, vec_capacity}
 use Rattle.cert_check.proofs.reader.take_orders.Given as goal
 
 abbrev pub invariant-loop-order : goal.invariant-loop-order

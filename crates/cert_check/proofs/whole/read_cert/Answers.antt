@@ -1,4 +1,4 @@
-use Rattle.std.proofs.Common.{[], ◌∙◌, subst, ◌++◌}
+use Rattle.std.proofs.Common.{[], ◌∙◌, subst}
 use Rattle.mill_model.specs.Mill.{Mill}
 use Rattle.cert_rules.specs.States.{Wanted}
 use Rattle.cert_check.specs.Gathering.{Gathers}

@@ -1,6 +1,5 @@
-use Rattle.std.proofs.Common.{sym, subst}
+use Rattle.std.proofs.Common.{subst}
 use Rattle.cert_rules.specs.States.{Wanted}
-use Rattle.cert_rules.specs.States.Wanted.{All}
 use Rattle.cert_check.specs.Gathering.{Gathers, IsBuiltFrom}
 use Rattle.cert_check.specs.Parts.{gathered}
 use Rattle.cert_check.specs.Verdicts.{IsBadAt}

@@ -1,4 +1,3 @@
-use Rattle.std.proofs.Common.{subst}
 use Rattle.cert_check.specs.Parts.{gathered}
 use Rattle.cert_check.proofs.Gathering.{as_reader}
 use Rattle.cert_check.proofs.gatherer.Gatherer.failed.Goals as goal

@@ -1,4 +1,4 @@
-use Rattle.std.proofs.Common.{◌≡◌, ◌∙◌, None, Some, length, take, refl, sym, ap}
+use Rattle.std.proofs.Common.{◌∙◌, None, Some, length, take, refl, sym, ap}
 use Rattle.mill_model.specs.Mill.{Mill}
 use Rattle.cert_check.specs.Building.{build}
 use Rattle.cert_check.specs.Parts.{gathered}

@@ -1,4 +1,4 @@
-use Rattle.std.proofs.Common.{◌≡◌, ◌≤◌, Some, length, ap, arith}
+use Rattle.std.proofs.Common.{◌≡◌, length, ap, arith}
 use Rattle.mill_model.specs.Columns.{Column}
 use Rattle.cert_slabs.proofs.Rising.{rises_few}
 use Rattle.cert_check.proofs.machine.Machine.bad_column.Goals as goal

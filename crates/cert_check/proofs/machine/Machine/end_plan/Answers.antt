@@ -1,4 +1,4 @@
-use Rattle.std.proofs.Common.{◌≡◌, Some, false, refl, ap, sym, subst, ◌∙◌}
+use Rattle.std.proofs.Common.{◌≡◌, Some, false, refl, ap, subst, ◌∙◌}
 use Rattle.mill_model.specs.declared.sums.Sums.{Sums}
 use Rattle.cert_rules.specs.Rules.{AllKept}
 use Rattle.cert_rules.specs.States.{latest}

@@ -1,6 +1,6 @@
-use Rattle.std.proofs.Common.{◌≡◌, refl, sym, subst, ◌∙◌}
+use Rattle.std.proofs.Common.{subst}
 use Rattle.mill_model.specs.declared.limits.Limits.{Limits}
-use Rattle.cert_rules.specs.Rules.{AllKept, FirstBroken}
+use Rattle.cert_rules.specs.Rules.{FirstBroken}
 use Rattle.cert_rules.specs.Leaves.{leaf_rules}
 use Rattle.cert_check.specs.Readings.{Machine}
 use Rattle.cert_check.specs.Seen.{seen}

@@ -1,4 +1,4 @@
-use Rattle.std.proofs.Common.{◌≡◌, refl}
+use Rattle.std.proofs.Common.{refl}
 use Rattle.cert_check.specs.Readings.{Machine}
 use Rattle.cert_check.specs.Seen.{seen}
 use Rattle.cert_check.proofs.Goes.{stays_in_tree, tree_ask_goes, tree_ask_refused}
