@@ -10,6 +10,8 @@ mod files;
 mod laws;
 mod program;
 mod reading;
+#[cfg(test)]
+mod tests;
 mod texts;
 mod verdict;
 mod words;
