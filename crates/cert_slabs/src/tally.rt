@@ -12,7 +12,7 @@ ghost use Rattle.cert_slabs.specs.Answers.{Answers, IsRead, IsShare, share_of, n
 ghost use Rattle.cert_slabs.specs.Tallies.{AreFair, AreWithin, IsAdded, IsFair, IsTally, StayWithin};
 
 use crate::roster::Roster;
-use crate::slab::{listed_size, load_of, named_slab, size_of, test_slab};
+use crate::slab::{listed_size, load_of, named_slab, test_slab};
 use cert_rules::Why;
 use cert_view::Nums;
 use mill_model::{Kind, Limits, Mill};
@@ -95,7 +95,7 @@ impl Tally {
         ensures orders { length self.new.covered ≡ length self.old.covered }
         ensures slabs { length self.new.used ≡ length self.old.used }
     {
-        let loss = size_of(mill, kind).saturating_sub(load_of(mill, orders));
+        let loss = u32::from(mill.size_of(kind)).saturating_sub(load_of(mill, orders));
         if !cover(&mut self.covered, orders, times, self.d) {
             return false;
         }

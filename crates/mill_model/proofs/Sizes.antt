@@ -1,4 +1,4 @@
--- A new slab of the least size that holds its orders decides for all larger ones.
+-- Agreement doesn't see the size of a new slab.
 use Rattle.std.proofs.Common.{◌≡◌, ℕ, ◌-◌, ◌≤◌, pos, ◌≤ℤ◌, Bool, ◌&&◌, List, [], ◌∷◌, refl, ap₂, arith}
 use Rattle.std.proofs.lemmas.Int.{ints}
 use Rattle.mill_model.specs.declared.ask.Ask.{Ask}
@@ -18,6 +18,3 @@ agrees_any_size u v orders (Put o s) b = refl
 pub column_agrees_any_size : (u v : ℕ) (orders : List ℕ) (decisions : List Decision) → column_agrees decisions (record { kind = New u; orders = orders }) ≡ column_agrees decisions (record { kind = New v; orders = orders })
 column_agrees_any_size u v orders [] = refl
 column_agrees_any_size u v orders (d ∷ decisions) = ap₂ (λ a b. a && b) (agrees_any_size u v orders d.0 d.1) (column_agrees_any_size u v orders decisions)
-
-pub priced_larger : (m : Mill) (p : Prices) (u v : ℕ) (orders : List ℕ) → pos 0 ≤ℤ p.lambda → u ≤ v → IsPriced m p (record { kind = New u; orders = orders }) → IsPriced m p (record { kind = New v; orders = orders })
-priced_larger m p u v orders sign le h = record { priced = omega (arith, ints, h.priced, mul_le p.lambda (pos (u - load m orders)) (pos (v - load m orders)) sign (omega (arith, ints))) }
