@@ -1,9 +1,8 @@
 -- Lists of rising numbers.
-use Rattle.std.proofs.Common.{◌≡◌, ℕ, zero, suc, ◌+◌, ◌<◌, ◌≤◌, Bool, false, cond, ◌||◌, eqb, List, [], ◌∷◌, ◌++◌, length, slice_index, All, refl, sym, ap, ap₂, ◌∙◌, subst, inl, inr, arith, add-one}
-use Rattle.std.proofs.lemmas.Bool.{eq-eqb, ne_eqb, cases_eq, cases_order, cond_both, or_left, or_from, both_ways}
+use Rattle.std.proofs.Common.{◌≡◌, ℕ, ◌+◌, ◌<◌, false, ◌||◌, eqb, List, [], ◌∷◌, refl, sym, ap, ap₂, ◌∙◌, subst, inl, inr, arith}
+use Rattle.std.proofs.lemmas.Bool.{eq-eqb, ne_eqb, cases_eq, cases_order, or_left, or_from, both_ways}
 use Rattle.mill_model.specs.Columns.{Rises, has}
 use Rattle.mill_model.proofs.Duality.{not_has}
-use Rattle.mill_model.proofs.Slabs.{Rises-lower}
 
 -- rising lists with the same members are one
 pub same_members : (low n : ℕ) (xs ys : List ℕ) → Rises low n xs → Rises low n ys → ((i : ℕ) → i < n → has xs i ≡ has ys i) → xs ≡ ys
@@ -32,16 +31,3 @@ same_members low n (x ∷ xs) (y ∷ ys) r s h = ap₂ ◌∷◌ heads (same_mem
       | inl e ↦ not_has (x + 1) n xs i r.2 (omega arith) ∙ sym (not_has (y + 1) n ys i s.2 (omega (arith, heads)))
       | inr ne ↦ sym (drop_first x i xs ne) ∙ h i l ∙ drop_first y i ys (λ e. ne (heads ∙ e))
     ]
-
--- the numbers from low on, k of them, that pass a test
-pub passing : (ℕ → Bool) → ℕ → ℕ → List ℕ
-passing test low zero = []
-passing test low (suc k) = cond (test low) (low ∷ passing test (low + 1) k) (passing test (low + 1) k)
-
-pub passing_rises : (test : ℕ → Bool) (low k high : ℕ) → low + k ≤ high → Rises low high (passing test low k)
-unfolding passing
-passing_rises test low zero high h = tt
-passing_rises test low (suc k) high h =
-    cond_both (test low) (low ∷ passing test (low + 1) k) (passing test (low + 1) k) (λ ys. Rises low high ys)
-    (λ _. (omega arith, omega arith, passing_rises test (low + 1) k high (omega arith)))
-    (λ _. Rises-lower (low + 1) low high (passing test (low + 1) k) (omega arith) (passing_rises test (low + 1) k high (omega arith)))

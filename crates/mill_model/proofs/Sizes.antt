@@ -1,14 +1,9 @@
 -- Agreement doesn't see the size of a new slab.
-use Rattle.std.proofs.Common.{◌≡◌, ℕ, ◌-◌, ◌≤◌, pos, ◌≤ℤ◌, Bool, ◌&&◌, List, [], ◌∷◌, refl, ap₂, arith}
-use Rattle.std.proofs.lemmas.Int.{ints}
+use Rattle.std.proofs.Common.{◌≡◌, ℕ, Bool, ◌&&◌, List, [], ◌∷◌, refl, ap₂}
 use Rattle.mill_model.specs.declared.ask.Ask.{Ask}
 use Rattle.mill_model.specs.declared.ask.Ask.TheVariants.{Pair, Put}
 use Rattle.mill_model.specs.declared.kind.Kind.TheVariants.{New}
-use Rattle.mill_model.specs.Mill.{Mill}
-use Rattle.mill_model.specs.Prices.{Prices, IsPriced}
-use Rattle.mill_model.specs.Columns.{load}
 use Rattle.mill_model.specs.Decisions.{Decision, agrees, column_agrees}
-use Rattle.mill_model.proofs.Signed.{mul_le}
 
 -- agreement doesn't see the size
 agrees_any_size : (u v : ℕ) (orders : List ℕ) (ask : Ask) (b : Bool) → agrees (record { kind = New u; orders = orders }) (ask, b) ≡ agrees (record { kind = New v; orders = orders }) (ask, b)

@@ -51,4 +51,5 @@ pub record IsOrderFile (bytes : List ℕ) (mill : Mill) : Type 0 where
 
 -- what is read is in the grammar, and what is in the grammar is read
 abbrev pub OrderFilesSpellMills : Type 0
-OrderFilesSpellMills = (bytes : List ℕ) (mill : Mill) → (order_file bytes ≡ Ok mill) ↔ IsOrderFile bytes mill
+OrderFilesSpellMills = (bytes : List ℕ) (mill : Mill) →
+    (order_file bytes ≡ Ok mill) ↔ IsOrderFile bytes mill
