@@ -68,17 +68,24 @@ module _ (g : Groups) (ends : List ℤ) (heads : List ℕ) (step width : ℕ) (g
 -- the greater of an entry and of the gain beside another one
 module _ (table : List ℤ) (row width column jump : ℕ) (gain : ℤ) (few : row + width ≤ length table) (inside : column < width) (within : column + jump < width) (narrow : length table ≤ 2 ^ 24) (little : unsigned_abs gain ≤ 2 ^ 84) (small : AreSmall table)
     (z : ℤ) (greater : z ≡ int_max (to_z w128 (of_z w128 (get_or table (row + column) (pos 0)))) (to_z w128 (of_z w128 (to_z w128 (of_z w128 gain) +ℤ to_z w128 (of_z w128 (get_or table (row + (column + jump)) (pos 0))))))) where
-  pub greater_with : (gain +ℤ get_or table (row + (column + jump)) (pos 0)) ≤ℤ z
+  pub greater_with : (gain +ℤ get_or table (row + (column + jump)) (pos 0)) ≤ℤ to_z w128 (of_z w128 z)
   greater_with =
+      let without = to_z w128 (of_z w128 (get_or table (row + column) (pos 0))) in
+      let with = to_z w128 (of_z w128 (to_z w128 (of_z w128 gain) +ℤ to_z w128 (of_z w128 (get_or table (row + (column + jump)) (pos 0))))) in
       let here : unsigned_abs (get_or table (row + (column + jump)) (pos 0)) ≤ 2 ^ 109 = entry_bounded table (row + (column + jump)) small narrow (omega (arith, within, few)) in
-      omega (arith, ints, greater, int_max_is (to_z w128 (of_z w128 (get_or table (row + column) (pos 0)))) (to_z w128 (of_z w128 (to_z w128 (of_z w128 gain) +ℤ to_z w128 (of_z w128 (get_or table (row + (column + jump)) (pos 0)))))), here, little)
+      let before : unsigned_abs (get_or table (row + column) (pos 0)) ≤ 2 ^ 109 = entry_bounded table (row + column) small narrow (omega (arith, inside, few)) in
+      let bounded : unsigned_abs z ≤ 2 ^ 110 = max_small (2 ^ 110) without with z greater (omega (arith, ints, before)) (omega (arith, ints, here, little)) in
+      omega (arith, ints, greater, int_max_is without with, bounded, here, little)
 
-  pub greater_small : unsigned_abs z ≤ 2 ^ 100 + (row + width) * 2 ^ 84
+  pub greater_small : unsigned_abs (to_z w128 (of_z w128 z)) ≤ 2 ^ 100 + (row + width) * 2 ^ 84
   greater_small =
+      let without = to_z w128 (of_z w128 (get_or table (row + column) (pos 0))) in
+      let with = to_z w128 (of_z w128 (to_z w128 (of_z w128 gain) +ℤ to_z w128 (of_z w128 (get_or table (row + (column + jump)) (pos 0))))) in
       let here : unsigned_abs (get_or table (row + (column + jump)) (pos 0)) ≤ 2 ^ 100 + (row + (column + jump)) * 2 ^ 84 = small (row + (column + jump)) (omega (arith, within, few)) in
       let before : unsigned_abs (get_or table (row + column) (pos 0)) ≤ 2 ^ 100 + (row + column) * 2 ^ 84 = small (row + column) (omega (arith, inside, few)) in
-      max_small (2 ^ 100 + (row + width) * 2 ^ 84) (to_z w128 (of_z w128 (get_or table (row + column) (pos 0)))) (to_z w128 (of_z w128 (to_z w128 (of_z w128 gain) +ℤ to_z w128 (of_z w128 (get_or table (row + (column + jump)) (pos 0)))))) z greater
-      (omega (arith, ints, before, inside, few, narrow)) (omega (arith, ints, here, little, within, few, narrow))
+      let bounded : unsigned_abs z ≤ 2 ^ 100 + (row + width) * 2 ^ 84 =
+      max_small (2 ^ 100 + (row + width) * 2 ^ 84) without with z greater (omega (arith, ints, before, inside, few, narrow)) (omega (arith, ints, here, little, within, few, narrow)) in
+      omega (arith, ints, bounded, few, narrow)
 
 -- ---- a bound that is looked up
 
