@@ -25,7 +25,9 @@ pub record AreEnds (m : Mill) (p : Prices) (ends : List ℤ) : Type 0 where
 -- no part of the groups left gains more than this beside a load, less the cost of a slab that holds both
 abbrev pub IsMost : Mill → Prices → Groups → List ℕ → ℕ → ℤ → Type 0
 IsMost m p g left load most =
-    (more : List ℕ) (kind : Kind) → IsPart more left → IsInStock m kind → load + sum_by (weight_at g) more ≤ size_of m kind → (total_by (gain_at g) more -ℤ cost_of m p kind) ≤ℤ most
+    (more : List ℕ) (kind : Kind) → IsPart more left → IsInStock m kind
+    → load + sum_by (weight_at g) more ≤ size_of m kind
+    → (total_by (gain_at g) more -ℤ cost_of m p kind) ≤ℤ most
 
 -- ---- a table
 
