@@ -10,6 +10,8 @@ mod faults;
 mod judge;
 #[cfg(test)]
 mod many;
+#[cfg(test)]
+mod memory;
 pub mod row;
 #[cfg(test)]
 mod solve;
