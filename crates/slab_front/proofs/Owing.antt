@@ -54,6 +54,7 @@ owes_mill owes files words m status o has owed =
     owes_value Orders order_file (OwesOfYard after files words.yard) files words.orders has.bare status o has.orders
     (owes_yard after files words.yard has.bare has.with_its_yard status o has.yard (subst (λ (x : Mill). owes x status o) has.colours owed))
 
+<<<<<<< HEAD
 -- ---- cuts
 
 owes_cut : (owes : List Point → Owing) (files : Files) (name : List ℕ) (m : Mill) (status : ℕ) (o : Outcome)
@@ -107,6 +108,9 @@ more_of_yard : (owes others : Mill → Owing) (files : Files) (yard : Option (Li
 more_of_yard owes others files None m status o more is = more m is
 more_of_yard owes others files (Some name) m status o more is =
     more_of_file YardSource (yard_file (length m.orders)) (λ yard. owes (with_yard m yard)) (λ yard. others (with_yard m yard)) files name status o (λ yard. more (with_yard m yard)) is
+=======
+-- ---- judging
+>>>>>>> main
 
 -- what is found passes the test
 found_here : {A : Type 0} (p : A → Bool) (y x : A) (others : Option A) (b : Bool) → p y ≡ b → (others ≡ Some x → p x ≡ true) → cond b (Some y) others ≡ Some x → p x ≡ true

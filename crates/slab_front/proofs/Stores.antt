@@ -14,29 +14,6 @@ use Rattle.slab_desk.proofs.Steps.{steps_join, steps_weaker}
 use Rattle.slab_front.specs.Outcomes.{Outcome, Gives, SaysOnly, BeginsToStore, BeginsToSay, Begins, saying, storing, with_file}
 use Rattle.slab_front.specs.Endings.{Finishes}
 
-abbrev IsUnread : Told → Told → Type 0
-IsUnread x y = y.left ≡ x.left
-
--- ---- texts
-
-pub gives_text : (text : List ℕ) (x y : Told) → Says text x y → Gives (saying text) x y
-gives_text text x y q = q ∙ ap (λ (l : List ℕ). record x { left = l; said = x.said ++ text }) (sym (ap (λ (t : Told). t.left) q))
-
-unread_text : (text : List ℕ) (x y : Told) → Says text x y → y.left ≡ x.left
-unread_text text x y q = ap (λ (t : Told). t.left) q
-
-begins_text : (text : List ℕ) (x y : Told) → WithPrefix Says text x y → BeginsToSay (saying text) x y
-begins_text text x y (front, back, whole, q) = (front, back, whole, gives_text front x y q)
-
--- a text after what was given before
-says_more : (o : Outcome) (text : List ℕ) (x y z : Told) → Gives o x y → Says text y z → Gives (record o { said = o.said ++ text }) x z
-says_more o text x y z p q =
-    let f : Files = (with_file o.stored x).files in
-    let t : Option (List ℕ) = (with_file o.stored x).target in
-    q ∙ ap (λ (u : Told). record u { said = u.said ++ text }) p
-    ∙ ap (λ (s : List ℕ). record x { files = f; target = t; left = y.left; said = s }) (append_assoc x.said o.said text)
-    ∙ ap (λ (l : List ℕ). record x { files = f; target = t; left = l; said = x.said ++ (o.said ++ text) }) (sym (ap (λ (u : Told). u.left) q))
-
 -- ---- files
 
 some_same : {A : Type 0} (a b : A) → Some a ≡ Some b → a ≡ b
@@ -68,28 +45,12 @@ stored name text x y z p q = appended_all name text x z (subst (λ (u : Told). A
 gives_file : (name text : List ℕ) (x y z : Told) → Creates name x y → AppendsAll text y z → Gives (storing name text) x z
 gives_file name text x y z p q = gives_created name text x z (stored name text x y z p q)
 
-unread_file : (name text : List ℕ) (x y z : Told) → Creates name x y → AppendsAll text y z → z.left ≡ x.left
-unread_file name text x y z p q = ap (λ (u : Told). u.left) (stored name text x y z p q)
-
 pub file_stored : (name text : List ℕ) (a b c : Option Told) → Steps a b (Creates name) → Steps b c (AppendsAll text) → Steps a c (Gives (storing name text))
 file_stored name text a b c p q = steps_join a b c (λ x y z r s. gives_file name text x y z r s) p q
-
-pub file_unread : (name text : List ℕ) (a b c : Option Told) → Steps a b (Creates name) → Steps b c (AppendsAll text) → Steps a c (λ x y. y.left ≡ x.left)
-file_unread name text a b c p q = steps_join a b c (λ x y z r s. unread_file name text x y z r s) p q
 
 pub file_begun : (name text : List ℕ) (a b c : Option Told) → Steps a b (Creates name) → Steps b c (WithPrefix AppendsAll text)
     → Steps a c (λ x y. SaysOnly [] x y ⊎ BeginsToStore (Some (name, text)) x y)
 file_begun name text a b c p q = steps_join a b c (λ x y z r s. inr (s.0, s.1, s.2, gives_file name s.0 x y z r s.3)) p q
-
-pub file_begun_unread : (name text : List ℕ) (a b c : Option Told) → Steps a b (Creates name) → Steps b c (WithPrefix AppendsAll text) → Steps a c (λ x y. y.left ≡ x.left)
-file_begun_unread name text a b c p q = steps_join a b c (λ x y z r s. unread_file name s.0 x y z r s.3) p q
-
-nothing_said : (x y : Told) → Stays x y → SaysOnly [] x y
-nothing_said x y q =
-    q ∙ ap (λ (s : List ℕ). record x { said = s }) (sym (append-nil x.said))
-    ∙ ap (λ (l : List ℕ). record x { left = l; said = x.said ++ [] }) (sym (ap (λ (u : Told). u.left) q))
-
--- ---- ends
 
 -- ---- results
 
@@ -100,11 +61,3 @@ on_ok (Err e) f p = tt
 pub on_err : {A E : Type 0} (r : Result A E) {P Q : Type 0} → (P → Q) → OnErr r P → OnErr r Q
 on_err (Ok a) f p = tt
 on_err (Err e) f p = f p
-
--- whether it was written whole or not
-pub file_left : {A E : Type 0} (r : Result A E) (name text : List ℕ) (a b c : Option Told) → Steps a b (Creates name)
-    → OnOk r (Steps b c (AppendsAll text)) → OnErr r (Steps b c (WithPrefix AppendsAll text)) → Steps a c (λ x y. y.left ≡ x.left)
-file_left (Ok v) name text a b c p all some = file_unread name text a b c p all
-file_left (Err e) name text a b c p all some = file_begun_unread name text a b c p some
-
--- ---- reports

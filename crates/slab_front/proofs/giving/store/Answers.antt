@@ -4,7 +4,7 @@ use Rattle.slab_desk.specs.Desk.{Told, Steps, AppendsAll, WithPrefix}
 use Rattle.cert_text.specs.Certificates.{Certificate}
 use Rattle.cert_text.specs.Texts.{certificate_text}
 use Rattle.slab_front.specs.Searched.{certificate_of}
-use Rattle.slab_front.proofs.Stores.{on_ok, on_err, file_stored, file_begun, file_left}
+use Rattle.slab_front.proofs.Stores.{on_ok, on_err, file_stored, file_begun}
 use Rattle.slab_front.proofs.giving.store.Goals as goal
 
 pub returns-clause-stores : goal.returns-clause-stores
