@@ -54,7 +54,6 @@ owes_mill owes files words m status o has owed =
     owes_value Orders order_file (OwesOfYard after files words.yard) files words.orders has.bare status o has.orders
     (owes_yard after files words.yard has.bare has.with_its_yard status o has.yard (subst (λ (x : Mill). owes x status o) has.colours owed))
 
-<<<<<<< HEAD
 -- ---- cuts
 
 owes_cut : (owes : List Point → Owing) (files : Files) (name : List ℕ) (m : Mill) (status : ℕ) (o : Outcome)
@@ -78,39 +77,7 @@ owes_no_cut files name cert limit was is m number why text (bytes, has, first) s
     owes_cut (λ ps. OwesSearch (stored_as cert) ps limit was is m) files name m 7 (saying text)
     (bytes, has, inr (record { number = number; rule = why_of why; first = first; owed = (refl, ap saying said) }))
 
--- ---- a refusal of a file stands whatever follows
-
-refused_reading : {A : Type 0} (r : Result A TextFault) (P Q : A → Type 0) (F : TextFault → Type 0) → ((value : A) → P value → Q value) → MatchResult r P F → MatchResult r Q F
-refused_reading (Ok value) P Q F more is = more value is
-refused_reading (Err fault) P Q F more is = is
-
-refused_bytes : (b : Bool) (L P Q : Type 0) → (P → Q) → MatchBool b L P → MatchBool b L Q
-refused_bytes true L P Q more is = is
-refused_bytes false L P Q more is = more is
-
-refused_there : (there : Option (List ℕ)) (P Q : List ℕ → Type 0) → ((bytes : List ℕ) → P bytes → Q bytes) → MatchOption there ⊥ P → MatchOption there ⊥ Q
-refused_there None P Q more is = is
-refused_there (Some bytes) P Q more is = more bytes is
-
-pub more_of_file : {A : Type 0} (source : Source) (reading : List ℕ → Result A TextFault) (owes others : A → Owing) (files : Files) (name : List ℕ) (status : ℕ) (o : Outcome)
-    → ((value : A) → owes value status o → others value status o)
-    → OwesOfFile source reading owes files name status o → OwesOfFile source reading others files name status o
-more_of_file source reading owes others files name status o more is =
-    let Fails : TextFault → Type 0 = λ fault. Exactly 2 (fault_text source fault) status o in
-    let Long : Type 0 = Exactly 2 (long_text source) status o in
-    refused_there (get files name)
-    (λ b. MatchBool (nat_lt most_bytes (length b)) Long (MatchResult (reading b) (λ v. owes v status o) Fails))
-    (λ b. MatchBool (nat_lt most_bytes (length b)) Long (MatchResult (reading b) (λ v. others v status o) Fails))
-    (λ b. refused_bytes (nat_lt most_bytes (length b)) Long _ _ (refused_reading (reading b) (λ v. owes v status o) (λ v. others v status o) Fails more)) is
-
-more_of_yard : (owes others : Mill → Owing) (files : Files) (yard : Option (List ℕ)) (m : Mill) (status : ℕ) (o : Outcome)
-    → ((x : Mill) → owes x status o → others x status o) → OwesOfYard owes files yard m status o → OwesOfYard others files yard m status o
-more_of_yard owes others files None m status o more is = more m is
-more_of_yard owes others files (Some name) m status o more is =
-    more_of_file YardSource (yard_file (length m.orders)) (λ yard. owes (with_yard m yard)) (λ yard. others (with_yard m yard)) files name status o (λ yard. more (with_yard m yard)) is
-=======
 -- ---- judging
->>>>>>> main
 
 -- what is found passes the test
 found_here : {A : Type 0} (p : A → Bool) (y x : A) (others : Option A) (b : Bool) → p y ≡ b → (others ≡ Some x → p x ≡ true) → cond b (Some y) others ≡ Some x → p x ≡ true

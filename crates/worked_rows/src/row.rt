@@ -1,0 +1,72 @@
+//! A run over a desk in memory. What a run does is proved of `run` itself; here nothing is promised.
+use crate::desks::{Files, desk_of};
+use slab_desk::{Act, MemDesk};
+use slab_front::run;
+use slab_node::Tally;
+use std::alloc::{AllocError, Global};
+
+/// How a run ended: its status, what it said, the certificate if it created one, how often the desk failed, and whether its
+/// last call did.
+#[derive(Debug, Drop)]
+pub struct Row {
+    pub status: u8,
+    pub said: Vec<u8>,
+    pub stored: Option<Vec<u8>>,
+    pub faults: u64,
+    pub stopped: bool,
+}
+
+/// The run of these words, parted by single spaces, over these files. The certificate is the file `cert`.
+pub fn run_row(alloc: Global, words: &str, files: Files<'_>) -> Result<Row, AllocError> {
+    let mut desk = desk_of(alloc, files.orders, files.plan, files.yard, Vec::new(alloc))?;
+    ended(alloc, words, &mut desk)
+}
+
+/// The same where the k-th call of this kind fails; none where there were fewer of them.
+pub fn failing_row(
+    alloc: Global,
+    words: &str,
+    files: Files<'_>,
+    act: Act,
+    call: u32,
+) -> Result<Option<Row>, AllocError> {
+    let failing = vec![in alloc; (act, call)]?;
+    let mut desk = desk_of(alloc, files.orders, files.plan, files.yard, failing)?;
+    let row = ended(alloc, words, &mut desk)?;
+    if desk.calls(act) < call {
+        return Ok(None);
+    }
+    Ok(Some(row))
+}
+
+fn ended(alloc: Global, words: &str, desk: &mut MemDesk) -> Result<Row, AllocError> {
+    let status = status_of(alloc, words, desk)?;
+    let stored = match desk.file("cert") {
+        Some(bytes) => Some(bytes.to_vec(alloc)?),
+        None => None,
+    };
+    Ok(Row {
+        status,
+        said: desk.said().to_vec(alloc)?,
+        stored,
+        faults: desk.faults(),
+        stopped: desk.stopped(),
+    })
+}
+
+fn status_of(alloc: Global, words: &str, desk: &mut MemDesk) -> Result<u8, AllocError> {
+    let words = parted(alloc, words)?;
+    Ok(run(alloc, &words, desk, &mut Tally::new()))
+}
+
+// The words between single spaces; none of an empty text.
+fn parted(alloc: Global, text: &str) -> Result<Vec<String>, AllocError> {
+    let mut words = Vec::new(alloc);
+    if text.is_empty() {
+        return Ok(words);
+    }
+    for part in text.split(' ') {
+        words.push(String::from_str(alloc, part)?)?;
+    }
+    Ok(words)
+}
