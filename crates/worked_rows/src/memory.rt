@@ -29,5 +29,5 @@ fn memory_may_run_out(rt: HostRuntime) -> Result<(), Fail> {
 
 // Only that was said, and no file was created.
 fn ran_out(row: &Row) -> bool {
-    row.status == 6 && row.said.as_slice() == b"memory\n" && row.stored.is_none()
+    row.status == 6 && row.said.as_slice() == b"memory\n".as_slice() && row.stored.is_none()
 }
