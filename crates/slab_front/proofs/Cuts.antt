@@ -22,7 +22,7 @@ use Rattle.slab_front.specs.Owed.{SpellsCut}
 use Rattle.slab_front.specs.Endings.{IsReadCut, HasGoodHead}
 
 pub was_read : (m : Mill) (bytes : List ℕ) (read : CutRead) → IsCutRead m bytes read → IsReadCut m read bytes
-was_read m bytes (cuts.Head points) (c, spelled, (shows, are)) = record { certificate = c; spelled = spelled; shows = shows; points_are = are }
+was_read m bytes (cuts.Head points) (c, spelled, shows, are) = record { certificate = c; spelled = spelled; shows = shows; points_are = are }
 was_read m bytes (cuts.No line broken) is = is.first
 
 -- the points of a good cut are a good head

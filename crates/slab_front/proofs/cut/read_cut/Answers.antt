@@ -20,8 +20,8 @@ pieces-init g c = record {
 
 pub pieces-preserved : goal.pieces-preserved
 pieces-preserved g c = record {
-  fed = fed_more _ _ c.args.name.now c.read.new.buf c.in_ok-count.count _ _ _ c.pieces.invariant.fed c.in_ok-count.ensures.reads c.in_ok-feed.ensures.stands;
-  mill = c.in_ok-feed.ensures.mill ∙ c.pieces.invariant.mill;
+  fed = fed_more _ _ c.args.name.now c.read.new.buf c.in_ok-count.count _ _ _ c.pieces.invariant.fed c.in_ok-count.ensures.reads c.in_ok-reader-2.ensures.stands;
+  mill = c.in_ok-reader-2.ensures.mill ∙ c.pieces.invariant.mill;
   within = c.pieces.invariant.within;
   kept = c.in_ok-count.ensures.cause.kept ∙ c.pieces.invariant.kept;
   stopped = c.in_ok-count.ensures.stopped;
@@ -29,7 +29,7 @@ pieces-preserved g c = record {
 
 pub pieces-smaller : goal.pieces-smaller
 pieces-smaller g c =
-    room_falls c.pieces.reader c.in_ok-feed.feed (length (take c.in_ok-count.count c.read.new.buf)) (sym c.failed.ensures.value ∙ c.if-failed.false) (grind (arith, common_steps)) (c.in_ok-feed.ensures.room _ c.pieces.invariant.fed.stands)
+    room_falls c.pieces.reader c.in_ok-reader-2.reader (length (take c.in_ok-count.count c.read.new.buf)) (sym c.failed.ensures.value ∙ c.if-failed.false) (grind (arith, common_steps)) (c.in_ok-reader-2.ensures.room _ c.pieces.invariant.fed.stands)
 
 pub returns-then-failed-clause-read : goal.returns-then-failed-clause-read
 returns-then-failed-clause-read g c =

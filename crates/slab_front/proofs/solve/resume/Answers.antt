@@ -21,7 +21,7 @@ returns-in-No-clause-answer g c =
     let cert : List ℕ = c.args.cert.now in
     let was : Tally = c.args.tally.now in
     let mill = c.in_ok-mill.mill in
-    let text : List ℕ = string_bytes c.in_ok-bad_line_text-in-No.text in
+    let text : List ℕ = string_bytes c.in_ok-bad_line_text-in-No.field-0 in
     let P : List ℕ → _ = IsReadCut mill (cuts.No c.in-No.line c.in-No.why) in
     told_both (HasMill words mill) (OnCutFile P name) (λ files. OwesOfMill (λ m. OwesResumed files name cert c.args.limit was was m) files words 7 (saying text))
     (g.D.Desk.told c.args.desk.now)
@@ -30,8 +30,8 @@ returns-in-No-clause-answer g c =
     (told_before (OnCutFile P name) (g.D.Desk.told c.args.desk.now) (g.D.Desk.told c.read_mill.new.desk) c.in_ok-mill.ensures.reads.left
     (subst (λ (r : CutRead). WhereTold (g.D.Desk.told c.read_mill.new.desk) (λ t. OnCutFile (IsReadCut mill r) name t.files)) c.in-No.is c.in_ok-read_cut.ensures.read))
 
-pub returns-in-Head-clause-answer : goal.returns-in-Head-clause-answer
-returns-in-Head-clause-answer g c =
+pub returns-clause-answer : goal.returns-clause-answer
+returns-clause-answer g c =
     let words : MillWords = named_mill c.args.orders c.args.yard c.args.colours in
     let name : List ℕ = c.args.cut.now in
     let cert : List ℕ = c.args.cert.now in
