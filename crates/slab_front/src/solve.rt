@@ -68,7 +68,8 @@ pub fn resume<'a, D: Desk>(
     ensures counters { AreNoLess tally.old tally.new }
 {
     let mill = read_mill(alloc, desk, orders, yard, colours)?;
-    match read_cut(alloc, desk, &mill, cut)? {
+    let read = read_cut(alloc, desk, &mill, cut)?;
+    match read {
         CutRead::No { line, why } => Ok(Answer::Text(Ending {
             status: 7,
             text: bad_line_text(alloc, line, &why)?,

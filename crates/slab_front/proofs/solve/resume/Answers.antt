@@ -28,7 +28,7 @@ returns-in-No-clause-answer g c =
     (λ files has read. owes_mill (λ m. OwesResumed files name cert c.args.limit was was m) files words mill 7 (saying text) has (owes_no_cut files name cert c.args.limit was was mill c.in-No.line c.in-No.why text read c.in_ok-bad_line_text-in-No.ensures))
     c.in_ok-mill.ensures.mill
     (told_before (OnCutFile P name) (g.D.Desk.told c.args.desk.now) (g.D.Desk.told c.read_mill.new.desk) c.in_ok-mill.ensures.reads.left
-    (subst (λ (r : CutRead). WhereTold (g.D.Desk.told c.read_mill.new.desk) (λ t. OnCutFile (IsReadCut mill r) name t.files)) c.in-No.is c.in_ok-read_cut.ensures.read))
+    (subst (λ (r : CutRead). WhereTold (g.D.Desk.told c.read_mill.new.desk) (λ t. OnCutFile (IsReadCut mill r) name t.files)) c.in-No.is c.in_ok-read.ensures.read))
 
 pub returns-clause-answer : goal.returns-clause-answer
 returns-clause-answer g c =
@@ -36,7 +36,7 @@ returns-clause-answer g c =
     let name : List ℕ = c.args.cut.now in
     let cert : List ℕ = c.args.cert.now in
     let was : Tally = c.args.tally.now in
-    let is : Tally = c.search_front-in-Head.new.tally in
+    let is : Tally = c.search_front.new.tally in
     let mill = c.in_ok-mill.mill in
     let s : Searched = c.in_ok-search-in-Head.search in
     let P : List ℕ → _ = IsReadCut mill (cuts.Head c.in-Head.head) in
@@ -45,4 +45,4 @@ returns-clause-answer g c =
     (λ files has read. owes_mill (λ m. OwesResumed files name cert c.args.limit was is m) files words mill (status_of s) (stored_as cert mill s) has (owes_points files name cert c.args.limit was is mill c.in-Head.head s read c.in_ok-search-in-Head.ensures.found))
     c.in_ok-mill.ensures.mill
     (told_before (OnCutFile P name) (g.D.Desk.told c.args.desk.now) (g.D.Desk.told c.read_mill.new.desk) c.in_ok-mill.ensures.reads.left
-    (subst (λ (r : CutRead). WhereTold (g.D.Desk.told c.read_mill.new.desk) (λ t. OnCutFile (IsReadCut mill r) name t.files)) c.in-Head.is c.in_ok-read_cut.ensures.read))
+    (subst (λ (r : CutRead). WhereTold (g.D.Desk.told c.read_mill.new.desk) (λ t. OnCutFile (IsReadCut mill r) name t.files)) c.in-Head.is c.in_ok-read.ensures.read))
