@@ -1,9 +1,8 @@
 -- What is read of a cut.
-use Rattle.std.proofs.Common.{◌≡◌, ℕ, List, ◌++◌, Option, sym, ap, subst}
-use Rattle.mill_model.specs.declared.ask.Ask.{Ask}
+use Rattle.std.proofs.Common.{ℕ, List, ◌++◌, subst}
 use Rattle.mill_model.specs.Mill.{Mill, IsInLimits}
 use Rattle.mill_model.specs.Fronts.{Point, IsGoodHead}
-use Rattle.cert_text.specs.Certificates.{Certificate, Ending, IsGoodEnded, IsCut, ShowsCut}
+use Rattle.cert_text.specs.Certificates.{Ending, IsGoodEnded, IsCut}
 use Rattle.cert_text.specs.Certificates.Ending.{Whole, Cut}
 use Rattle.cert_rules.specs.declared.why.Why.{Why}
 use Rattle.cert_rules.specs.States.Wanted.{Cuts}
@@ -14,7 +13,6 @@ use Rattle.cert_rules.proofs.FirstBad.{one_first_bad_line}
 use Rattle.cert_rules.proofs.Standing.{failures_stay, ends_are_right}
 use Rattle.cert_check.specs.declared.verdict.CutRead.{CutRead}
 use Rattle.cert_check.specs.declared.verdict.CutRead.TheVariants as cuts
-use Rattle.cert_check.specs.declared.line_why.LineWhy.{LineWhy}
 use Rattle.cert_check.specs.Whys.{why_of}
 use Rattle.cert_check.specs.Readings.{HasBadLine}
 use Rattle.cert_check.specs.Verdicts.{IsCutRead}

@@ -1,10 +1,10 @@
 -- How a run ends, from what its parts did.
-use Rattle.std.proofs.Common.{◌≡◌, ◌≢◌, ◌⊎◌, inl, inr, ℕ, List, [], ◌++◌, Option, Some, None, Ok, refl, sym, ap, ◌∙◌, subst, append-nil, rules}
+use Rattle.std.proofs.Common.{◌≡◌, ◌≢◌, inl, inr, ℕ, List, [], ◌++◌, Option, Some, None, Ok, refl, sym, ap, ◌∙◌, subst}
 use Rattle.slab_desk.specs.Desk.{Told, Files, Steps, WhereTold, ChangesLeft}
 use Rattle.slab_front.specs.Texts.{memory_text}
 use Rattle.slab_relax.specs.declared.tally.Tally.{Tally}
 use Rattle.slab_front.specs.Words.{Command, Parsed}
-use Rattle.slab_front.specs.Outcomes.{Outcome, Owing, Gives, SaysOnly, BeginsToStore, BeginsToSay, Begins, StopsShort, Ran, saying, storing, with_file}
+use Rattle.slab_front.specs.Outcomes.{Outcome, Owing, Gives, BeginsToStore, BeginsToSay, Begins, Ran, saying, storing, with_file}
 use Rattle.slab_front.specs.Owed.{OwesOfWords, OwesOfCommand}
 use Rattle.slab_front.specs.Endings.{Finishes}
 

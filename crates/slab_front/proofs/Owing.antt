@@ -1,7 +1,6 @@
 -- What is owed of files that have a value.
 use Rattle.std.proofs.Common.{◌≡◌, ◌≢◌, inl, inr, ℕ, ◌≤◌, Bool, true, false, cond, not, nat_eq, nat_lt, List, [], ◌∷◌, length, Option, Some, None, Result, Ok, Err, refl, sym, ap, subst, MatchResult, arith, rules}
 use Rattle.std.specs.Bool.{MatchBool}
-use Rattle.std.specs.FinMap.{get}
 use Rattle.std.specs.Prelude.{MatchOption, find}
 use Rattle.slab_desk.specs.Desk.{Files}
 use Rattle.mill_model.specs.declared.illegal.Illegal.{Illegal}
@@ -24,7 +23,7 @@ use Rattle.slab_front.specs.Words.Command.{Solves, Resumes, Judges, Makes}
 use Rattle.slab_front.specs.Texts.{long_text, fault_text, bad_line_text}
 use Rattle.slab_front.specs.Searched.{Searched, IsSearched, status_of}
 use Rattle.slab_front.specs.Outcomes.{Outcome, Owing, saying}
-use Rattle.slab_front.specs.Owed.{Exactly, Nothing, OwesOfFile, OwesOfYard, OwesOfMill, OwesOfPoints, OwesOfCut, OwesResumed, OwesSearch, stored_as, MayEnd, most_bytes, with_colours}
+use Rattle.slab_front.specs.Owed.{Exactly, OwesOfFile, OwesOfYard, OwesOfMill, OwesOfPoints, OwesOfCut, OwesResumed, OwesSearch, stored_as, MayEnd, most_bytes, with_colours}
 use Rattle.slab_front.specs.Endings.{HasValue, HasYard, HasMill, OnCutFile, IsReadCut}
 
 is_short : (n : ℕ) → n ≤ most_bytes → nat_lt most_bytes n ≡ false

@@ -1,12 +1,11 @@
 -- A cut that is read in pieces.
-use Rattle.std.proofs.Common.{◌≡◌, ◌⊎◌, ◌↔◌, inl, inr, ℕ, ◌+◌, ◌<◌, ◌≤◌, Bool, true, false, cond, IsTrue, List, [], ◌∷◌, ◌++◌, length, take, Option, Some, None, is_some, refl, sym, ap, ◌∙◌, subst, append-nil, arith}
+use Rattle.std.proofs.Common.{◌≡◌, ◌⊎◌, ◌↔◌, inl, inr, ℕ, ◌+◌, ◌<◌, ◌≤◌, Bool, true, false, cond, IsTrue, List, [], ◌++◌, length, take, Option, Some, None, is_some, refl, sym, ap, ◌∙◌, subst, append-nil, arith}
 use Rattle.std.specs.FinMap.{get}
 use Rattle.slab_desk.specs.Desk.{Told, Files, Steps, WhereTold, HasRead, Reads, Opens, Stays, ChangesLeft}
 use Rattle.slab_desk.proofs.Steps.{steps_join, steps_weaker}
 use Rattle.slab_desk.proofs.Pieces.{opened, read_more}
-use Rattle.mill_model.specs.Mill.{Mill}
 use Rattle.cert_rules.specs.States.Wanted.{Cuts}
-use Rattle.cert_check.specs.Readings.{HasBadLine, HasLessRoom, room}
+use Rattle.cert_check.specs.Readings.{HasBadLine, room}
 use Rattle.cert_check.specs.Cuts.{CutReading, StandsAsCut, CutHasLessRoom}
 use Rattle.slab_front.specs.Endings.{OnCutFile}
 

@@ -9,7 +9,7 @@ use Rattle.mill_model.specs.Mill.{Mill, IsInLimits}
 use Rattle.mill_model.specs.Plans.{Plan, IsLegal}
 use Rattle.mill_model.specs.Trees.{most_nodes}
 use Rattle.mill_model.specs.Marks.{MarkedSteps}
-use Rattle.mill_model.specs.Fronts.{Point, IsPoint, IsGoodFrom, IsGoodHead, sums_list}
+use Rattle.mill_model.specs.Fronts.{Point, IsPoint, IsGoodFrom, IsGoodHead}
 use Rattle.slab_relax.specs.declared.tally.Tally.{Tally}
 use Rattle.slab_relax.specs.Tallies.{HaveCauses}
 use Rattle.slab_tree.specs.Counts.{Counts}
@@ -26,12 +26,12 @@ use Rattle.slab_start.proofs.MadePlain.{made_is_plain}
 use Rattle.mill_model.specs.Columns.{Column}
 use Rattle.std.specs.Option.{option_map}
 use Rattle.slab_start.specs.Plain.{IsPlainMill}
-use Rattle.cert_text.specs.Certificates.{Ending, Certificate, IsGood, ShowsFront, ShowsNoPlan, AreMarksOf, finished_trees}
+use Rattle.cert_text.specs.Certificates.{IsGood, ShowsFront, ShowsNoPlan, AreMarksOf, finished_trees}
 use Rattle.cert_text.specs.Certificates.Ending.{Whole, Cut}
 use Rattle.cert_text.proofs.Shown.{what_is_shown_holds}
 use Rattle.slab_front.specs.Words.{most_limit}
-use Rattle.slab_front.specs.Searched.{Searched, certificate_of, status_of, status_with, end_word, ending_nodes, IsCounted, HasPlan, AreTheFront, attained, FindsFront, FindsNoPlan, IsCutShort, IsSearched}
-use Rattle.slab_front.specs.Searches.{searched, HasPointIfWhole}
+use Rattle.slab_front.specs.Searched.{Searched, certificate_of, status_of, status_with, end_word, ending_nodes, IsCounted, HasPlan, attained, FindsFront, IsSearched}
+use Rattle.slab_front.specs.Searches.{searched}
 
 -- no node was opened yet
 abbrev pub start : ℕ → Counts

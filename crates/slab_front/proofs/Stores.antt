@@ -1,18 +1,11 @@
 -- What was stored and said, from the calls of a desk.
-use Rattle.std.proofs.Common.{◌≡◌, ◌≢◌, ◌⊎◌, inl, inr, ℕ, List, [], ◌∷◌, ◌++◌, Option, Some, None, Result, Ok, Err, refl, sym, ap, ◌∙◌, subst, append-nil, append_assoc}
+use Rattle.std.proofs.Common.{◌≡◌, ◌⊎◌, inr, ℕ, List, [], ◌∷◌, ◌++◌, Option, Some, Result, Ok, Err, sym, ap, ◌∙◌, subst, append-nil}
 use Rattle.std.specs.FinMap.{get, insert}
 use Rattle.std.specs.Prelude.{OnOk, OnErr}
-use Rattle.mill_model.specs.Mill.{Mill}
-use Rattle.mill_model.specs.Fronts.{Point}
-use Rattle.mill_report.specs.declared.word.Word.{Word}
-use Rattle.mill_report.specs.declared.word.Word.TheVariants.{Complete, Budget, NoPlan}
-use Rattle.mill_report.specs.Reports.{report_text, summary_text}
-use Rattle.slab_front.specs.Searched.{status_with}
-use Rattle.slab_desk.specs.Desk.{Told, Files, Steps, Stays, Creates, Appends, AppendsAll, Says, WithPrefix}
+use Rattle.slab_desk.specs.Desk.{Told, Files, Steps, Creates, Appends, AppendsAll, WithPrefix}
 use Rattle.slab_desk.proofs.Files.{get-insert_same, insert-insert_same}
-use Rattle.slab_desk.proofs.Steps.{steps_join, steps_weaker}
-use Rattle.slab_front.specs.Outcomes.{Outcome, Gives, SaysOnly, BeginsToStore, BeginsToSay, Begins, saying, storing, with_file}
-use Rattle.slab_front.specs.Endings.{Finishes}
+use Rattle.slab_desk.proofs.Steps.{steps_join}
+use Rattle.slab_front.specs.Outcomes.{Gives, SaysOnly, BeginsToStore, storing}
 
 -- ---- files
 

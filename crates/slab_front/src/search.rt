@@ -56,14 +56,7 @@ pub fn search_front(
     let _orders = mill.orders();
     let none = no_points(alloc);
     let mut nodes = Nodes::new(limit);
-    let swept = sweep(
-        alloc,
-        mill,
-        &mut FirstFit::new(),
-        before,
-        &mut nodes,
-        tally,
-    )?;
+    let swept = sweep(alloc, mill, &mut FirstFit::new(), before, &mut nodes, tally)?;
     Ok(Search {
         swept,
         none,

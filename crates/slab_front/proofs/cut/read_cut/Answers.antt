@@ -1,4 +1,4 @@
-use Rattle.std.proofs.Common.{◌≡◌, ◌∙◌, ◌<◌, ℕ, List, ◌++◌, length, take, sym, subst, arith}
+use Rattle.std.proofs.Common.{◌∙◌, ◌<◌, length, take, sym, subst, arith}
 use Rattle.std.proofs.lemmas.Grind.{common_steps}
 use Rattle.mill_model.specs.Mill.{Mill}
 use Rattle.cert_rules.specs.States.Wanted.{Cuts}

@@ -1,5 +1,4 @@
 use Rattle.std.proofs.Common.{List, ℕ, Option, subst}
-use Rattle.mill_model.specs.declared.version.Version.TheVariants.{Two}
 use Rattle.slab_desk.specs.Desk.{Told, Steps, AppendsAll, WithPrefix}
 use Rattle.cert_text.specs.Certificates.{Certificate}
 use Rattle.cert_text.specs.Texts.{certificate_text}

@@ -1,15 +1,15 @@
-use Rattle.std.proofs.Common.{refl, ap, inl, inr, List, ℕ, subst}
+use Rattle.std.proofs.Common.{List, ℕ, subst}
 use Rattle.std.specs.String.{string_bytes}
 use Rattle.cert_check.specs.declared.verdict.CutRead.{CutRead}
 use Rattle.cert_check.specs.declared.verdict.CutRead.TheVariants as cuts
-use Rattle.slab_desk.specs.Desk.{Files, WhereTold}
+use Rattle.slab_desk.specs.Desk.{WhereTold}
 use Rattle.slab_relax.specs.declared.tally.Tally.{Tally}
 use Rattle.slab_front.specs.Words.{MillWords}
 use Rattle.slab_front.specs.Jobs.{named_mill}
 use Rattle.slab_front.specs.Searched.{Searched, status_of}
 use Rattle.slab_front.specs.Outcomes.{saying}
 use Rattle.slab_front.specs.Owed.{OwesOfMill, OwesResumed, stored_as}
-use Rattle.slab_front.specs.Endings.{HasMill, HasGoodHead, IsReadCut, OnCutFile}
+use Rattle.slab_front.specs.Endings.{HasMill, IsReadCut, OnCutFile}
 use Rattle.slab_front.proofs.Owing.{owes_mill, owes_points, owes_no_cut}
 use Rattle.slab_front.proofs.Telling.{told_before, told_both}
 use Rattle.slab_front.proofs.solve.resume.Goals as goal

@@ -1,4 +1,4 @@
-use Rattle.std.proofs.Common.{◌∙◌, List, ℕ, map, take, drop, length, ◌-◌, string_bytes}
+use Rattle.std.proofs.Common.{◌∙◌, map, take, drop, length, ◌-◌, string_bytes}
 use Rattle.slab_front.specs.Jobs.{searches_for, options_at, options_of}
 use Rattle.slab_front.proofs.OptionSteps.{two_first, next_option}
 use Rattle.slab_front.proofs.words.read_options.Goals as goal

@@ -6,7 +6,7 @@ use Rattle.slab_front.proofs.words.read_options.Given as goal
 abbrev pub invariant-options : goal.invariant-options
 invariant-options l =
     (options_from (searches_for l.command) (options_at l.command) no_options (map string_bytes l.words)
-        ≡ options_from (searches_for l.command) (word_after (options_at l.command) (options_of l.options)) (options_of l.options) (map string_bytes l.rest))
+    ≡ options_from (searches_for l.command) (word_after (options_at l.command) (options_of l.options)) (options_of l.options) (map string_bytes l.rest))
     × AreInRanges l.options
 
 abbrev pub decreases-options : goal.decreases-options
