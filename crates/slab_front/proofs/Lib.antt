@@ -5,3 +5,5 @@ pub mod Stores
 pub mod Numbers
 pub mod OptionSteps
 pub mod Searching
+pub mod Pieces
+pub mod Cuts

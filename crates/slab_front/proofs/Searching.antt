@@ -51,19 +51,19 @@ is_reached : (made count : ℕ) → count < last_count → (0 + made ≤ count) 
 is_reached made count below (inl h) = omega arith
 is_reached made count below (inr h) = absurd (omega arith)
 
-counted : (m : Mill) (limit last_bares : ℕ) (was is : Tally) (new : Counts) (s : Searched)
+counted : (m : Mill) (before : List Point) (limit last_bares : ℕ) (was is : Tally) (new : Counts) (s : Searched)
     → IsInLimits m → limit ≤ most_limit → s.opened ≡ new.opened → s.bare ≡ new.bare
     → OpensFew m (start limit) new → HaveCauses 0 was s.bare is → new.bare ≤ new.opened
-    → CountsNodes (nodes_of (added_to [] s.points) + ending_nodes s.ending) (start limit) new
-    → CountsBares (bares_of (added_to [] s.points) + last_bares) (start limit) new was is
-    → IsCounted m [] limit last_bares was is s
-counted m limit last_bares was is new s limits fits opened bare opens causes among nodes bares =
+    → CountsNodes (nodes_of (added_to before s.points) + ending_nodes s.ending) (start limit) new
+    → CountsBares (bares_of (added_to before s.points) + last_bares) (start limit) new was is
+    → IsCounted m before limit last_bares was is s
+counted m before limit last_bares was is new s limits fits opened bare opens causes among nodes bares =
     let end : new.opened < last_count = below_end m limit new limits fits opens in
     record {
       limited = omega (arith, opened, opens.limited);
       bounded = omega (arith, opened, opens.bounded);
-      nodes = omega (arith, opened, is_reached (nodes_of (added_to [] s.points) + ending_nodes s.ending) new.opened end nodes);
-      bares = omega (arith, bare, is_reached (bares_of (added_to [] s.points) + last_bares) new.bare (omega (arith, end, among)) bares.counted);
+      nodes = omega (arith, opened, is_reached (nodes_of (added_to before s.points) + ending_nodes s.ending) new.opened end nodes);
+      bares = omega (arith, bare, is_reached (bares_of (added_to before s.points) + last_bares) new.bare (omega (arith, end, among)) bares.counted);
       among = omega (arith, opened, bare, among);
       causes = causes;
     }
@@ -107,8 +107,10 @@ first_of_filled m (Some slabs) plan limits placed is =
 first_is_legal : (m : Mill) (plan : Plan) → IsInLimits m → first_fit m None ≡ Some plan → IsLegal m plan
 first_is_legal m plan limits is = first_of_filled m (place_orders m None (by_weight m) []) plan limits refl is
 
-none_before : (x : ℕ) → x ≡ 0 + x
-none_before x = omega arith
+-- where no point was found, no tree was added
+none_before : (before : List Point) (f : List Point → ℕ) (x : ℕ) → before ≡ [] → f [] ≡ 0 → x ≡ f (added_to before []) + x
+none_before [] f x e zero = omega (arith, zero)
+none_before (point ∷ points) f x e zero = cc
 
 told_plainly : (m : Mill) → IsPlainMill m → IsToldPlainly (Some first_fit) m
 told_plainly m plain = record {
@@ -123,13 +125,13 @@ told_plainly m plain = record {
 few_nodes : (m : Mill) (limit : ℕ) → limit + 2 ≤ most_nodes m → limit < (length m.orders + 2) * most_nodes m
 few_nodes m limit few = omega (arith, mul-le 1 (most_nodes m) (length m.orders + 2) (most_nodes m) (omega arith) (omega arith))
 
-pub found : (m : Mill) (limit : ℕ) (was is : Tally) (new : Counts) (swept : Swept) → IsInLimits m → limit ≤ most_limit
-    → IsSwept (Some first_fit) m [] (start limit) new was is swept
-    → CountsNodes (made_nodes [] swept) (start limit) new
-    → (IsToldPlainly (Some first_fit) m → ◌≡◌ {A = List Point} [] [] → IsSweptAtOnce (start limit) new swept)
+pub found : (m : Mill) (before : List Point) (limit : ℕ) (was is : Tally) (new : Counts) (swept : Swept) → IsInLimits m → limit ≤ most_limit
+    → IsSwept (Some first_fit) m before (start limit) new was is swept
+    → CountsNodes (made_nodes before swept) (start limit) new
+    → (IsToldPlainly (Some first_fit) m → before ≡ [] → IsSweptAtOnce (start limit) new swept)
     → OpensFew m (start limit) new → HaveCauses 0 was new.bare is → new.bare ≤ new.opened
-    → IsSearched m [] limit was is (status_of (searched swept new.opened new.bare)) (searched swept new.opened new.bare)
-found m limit was is new (Complete front) limits fits (whole, bares) nodes plain opens causes among =
+    → IsSearched m before limit was is (status_of (searched swept new.opened new.bare)) (searched swept new.opened new.bare)
+found m before limit was is new (Complete front) limits fits (whole, bares) nodes plain opens causes among =
     let s : Searched = searched (Complete front) new.opened new.bare in
     let good : IsGood m (certificate_of s) = record { ended = whole.good; marks = free_marks (finished_trees (certificate_of s)) } in
     let shows : ShowsFront m (certificate_of s) = record { good = good; whole = tt; some = whole.some } in
@@ -143,10 +145,10 @@ found m limit was is new (Complete front) limits fits (whole, bares) nodes plain
         last = front.last;
         ending = refl;
         made = whole.rest;
-        counts = counted m limit (bare_marks front.last.marks) was is new s limits fits refl refl opens causes among nodes bares;
+        counts = counted m before limit (bare_marks front.last.marks) was is new s limits fits refl refl opens causes among nodes bares;
       },
     )
-found m limit was is new (NoPlan last) limits fits (nothing, bares) nodes plain opens causes among =
+found m before limit was is new (NoPlan last) limits fits (nothing, bares) nodes plain opens causes among =
     let s : Searched = searched (NoPlan last) new.opened new.bare in
     let good : IsGood m (certificate_of s) = record { ended = nothing.good; marks = free_marks (finished_trees (certificate_of s)) } in
     let shows : ShowsNoPlan m (certificate_of s) = record { good = good; whole = tt; none = refl } in
@@ -160,12 +162,12 @@ found m limit was is new (NoPlan last) limits fits (nothing, bares) nodes plain 
         last = last;
         ending = refl;
         made = nothing.rest;
-        counts = counted m limit (bare_marks last.marks) was is new s limits fits refl refl opens causes among
-            (subst (λ (x : ℕ). CountsNodes x (start limit) new) (none_before (length last.steps)) nodes)
-            (subst (λ (x : ℕ). CountsBares x (start limit) new was is) (none_before (bare_marks last.marks)) bares);
+        counts = counted m before limit (bare_marks last.marks) was is new s limits fits refl refl opens causes among
+            (subst (λ (x : ℕ). CountsNodes x (start limit) new) (none_before before nodes_of (length last.steps) nothing.none refl) nodes)
+            (subst (λ (x : ℕ). CountsBares x (start limit) new was is) (none_before before bares_of (bare_marks last.marks) nothing.none refl) bares);
       },
     ))
-found m limit was is new (Budget points rest) limits fits (some, off, bares) nodes plain opens causes among =
+found m before limit was is new (Budget points rest) limits fits (some, off, bares) nodes plain opens causes among =
     let s : Searched = searched (Budget points rest) new.opened new.bare in
     let good : IsGood m (certificate_of s) = record {
       ended = record { head = off.head; rest = off.cut.cut.open_tree };
@@ -181,33 +183,34 @@ found m limit was is new (Budget points rest) limits fits (some, off, bares) nod
         bares = some;
         cut = off.cut;
         below = few_nodes m limit off.cut.few;
-        unplain = λ _ is_plain. (plain (told_plainly m is_plain) refl).answer;
-        counts = counted m limit some was is new s limits fits refl refl opens causes among nodes bares;
+        unplain = λ empty is_plain. (plain (told_plainly m is_plain) empty).answer;
+        counts = counted m before limit some was is new s limits fits refl refl opens causes among nodes bares;
       },
     ))
 
 -- the same from the calls of a search
-pub found_from : (m : Mill) (limit : ℕ) (was is : Tally) (old new : Counts) (head : List Point) (swept : Swept) (opened bare : ℕ)
-    → old ≡ start limit → head ≡ [] → opened ≡ new.opened → bare ≡ new.bare → IsInLimits m → limit ≤ most_limit
-    → IsSwept (Some first_fit) m head old new was is swept
-    → CountsNodes (made_nodes head swept) old new
-    → (IsToldPlainly (Some first_fit) m → head ≡ [] → IsSweptAtOnce old new swept)
+pub found_from : (m : Mill) (before : List Point) (limit : ℕ) (was is : Tally) (old new : Counts) (swept : Swept) (opened bare : ℕ)
+    → old ≡ start limit → opened ≡ new.opened → bare ≡ new.bare → IsInLimits m → limit ≤ most_limit
+    → IsSwept (Some first_fit) m before old new was is swept
+    → CountsNodes (made_nodes before swept) old new
+    → (IsToldPlainly (Some first_fit) m → before ≡ [] → IsSweptAtOnce old new swept)
     → OpensFew m old new → HaveCauses old.bare was new.bare is → new.bare ≤ new.opened
-    → IsSearched m [] limit was is (status_of (searched swept opened bare)) (searched swept opened bare)
-found_from m limit was is old new head swept opened bare eo eh e1 e2 limits fits given nodes plain opens causes among =
-    subst (λ (x : ℕ). IsSearched m [] limit was is (status_of (searched swept x bare)) (searched swept x bare)) (sym e1)
-    (subst (λ (y : ℕ). IsSearched m [] limit was is (status_of (searched swept new.opened y)) (searched swept new.opened y)) (sym e2)
-    (found m limit was is new swept limits fits
-    (subst (λ (n : Counts). IsSwept (Some first_fit) m [] n new was is swept) eo (subst (λ (h : List Point). IsSwept (Some first_fit) m h old new was is swept) eh given))
-    (subst (λ (n : Counts). CountsNodes (made_nodes [] swept) n new) eo (subst (λ (h : List Point). CountsNodes (made_nodes h swept) old new) eh nodes))
-    (λ told none. subst (λ (n : Counts). IsSweptAtOnce n new swept) eo (plain told eh))
+    → IsSearched m before limit was is (status_of (searched swept opened bare)) (searched swept opened bare)
+found_from m before limit was is old new swept opened bare eo e1 e2 limits fits given nodes plain opens causes among =
+    subst (λ (x : ℕ). IsSearched m before limit was is (status_of (searched swept x bare)) (searched swept x bare)) (sym e1)
+    (subst (λ (y : ℕ). IsSearched m before limit was is (status_of (searched swept new.opened y)) (searched swept new.opened y)) (sym e2)
+    (found m before limit was is new swept limits fits
+    (subst (λ (n : Counts). IsSwept (Some first_fit) m before n new was is swept) eo given)
+    (subst (λ (n : Counts). CountsNodes (made_nodes before swept) n new) eo nodes)
+    (λ told empty. subst (λ (n : Counts). IsSweptAtOnce n new swept) eo (plain told empty))
     (subst (λ (n : Counts). OpensFew m n new) eo opens)
     (subst (λ (n : Counts). HaveCauses n.bare was new.bare is) eo causes) among))
 
 -- a made mill has a front
-pub made_found : (orders seed limit : ℕ) (was is : Tally) (m : Mill) (s : Searched) → m ≡ made_mill orders seed
-    → IsSearched m [] limit was is (status_of s) s → (status_of s ≡ 0) × FindsFront (made_mill orders seed) [] limit was is s
-made_found orders seed limit was is m s made found = only (subst (λ (x : Mill). IsSearched x [] limit was is (status_of s) s) made found)
+pub made_found : (orders seed limit : ℕ) (was is : Tally) (m : Mill) (before : List Point) (s : Searched) → m ≡ made_mill orders seed → before ≡ []
+    → IsSearched m before limit was is (status_of s) s → (status_of s ≡ 0) × FindsFront (made_mill orders seed) [] limit was is s
+made_found orders seed limit was is m before s made none found =
+    only (subst (λ (x : Mill). IsSearched x [] limit was is (status_of s) s) made (subst (λ (ps : List Point). IsSearched m ps limit was is (status_of s) s) none found))
   where
     only : IsSearched (made_mill orders seed) [] limit was is (status_of s) s → (status_of s ≡ 0) × FindsFront (made_mill orders seed) [] limit was is s
     only (inl (zero, front)) = (zero, front)

@@ -1,10 +1,11 @@
 //! What the program `slabfront` does: its words, the answers that they ask for, and the texts that it says.
 //!
-//! Read `words` first (what is asked), then `ending` (what a run finds before it stores or says anything), `files`, `judge`,
-//! `search` and `solve` (how it finds that), `giving` (how it stores and says it), and last `program`, the whole run. What a run
+//! Read `words` first (what is asked), then `ending` (what a run finds before it stores or says anything), `files`, `cut`,
+//! `judge`, `search` and `solve` (how it finds that), `giving` (how it stores and says it), and last `program`, the whole run. What a run
 //! owes stands in `specs/Owed` and `specs/Searched`.
 #![tactic(auto)]
 
+mod cut;
 mod ending;
 mod files;
 mod giving;
