@@ -7,3 +7,4 @@ pub mod OptionSteps
 pub mod Searching
 pub mod Pieces
 pub mod Cuts
+pub mod Failing

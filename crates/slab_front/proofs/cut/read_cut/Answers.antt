@@ -7,6 +7,7 @@ use Rattle.cert_check.specs.Verdicts.{IsCutRead}
 use Rattle.slab_front.specs.Endings.{IsReadCut}
 use Rattle.slab_front.proofs.Pieces.{fed_nothing, fed_more, is_bad, room_falls, there_bad, there_whole}
 use Rattle.slab_front.proofs.Cuts.{was_read, good_head, bad_stays}
+use Rattle.slab_front.proofs.Failing.{read_failed, memory_ran_out, fault_is}
 use Rattle.slab_front.proofs.cut.read_cut.Goals as goal
 
 pub pieces-init : goal.pieces-init
@@ -58,3 +59,14 @@ returns-then-count-eq0-clause-good g c =
     let m : Mill = c.args.mill.now in
     let fed = c.pieces.invariant.fed in
     good_head m fed.bytes c.end-then-count-eq0.result (was_read m fed.bytes c.end-then-count-eq0.result (subst (λ (x : Mill). IsCutRead x fed.bytes c.end-then-count-eq0.result) c.pieces.invariant.mill (c.end-then-count-eq0.ensures fed.bytes fed.stands)))
+
+pub returns-in_err-count-clause-reads : goal.returns-in_err-count-clause-reads
+returns-in_err-count-clause-reads g c =
+    read_failed _ c.args.name.now c.from_residual-in_err-count.result _ (g.D.Desk.told c.pieces.desk) _ _ (g.D.Desk.faults c.pieces.desk) _ c.pieces.invariant.fed c.pieces.invariant.kept c.in_err-count.ensures.cause.later c.in_err-count.ensures.cause.failed c.in_err-count.ensures.reads c.from_residual-in_err-count.ensures
+
+pub returns-in_err-count-clause-stopped : goal.returns-in_err-count-clause-stopped
+returns-in_err-count-clause-stopped g c = c.in_err-count.ensures.stopped ∙ sym (fault_is c.from_residual-in_err-count.result c.from_residual-in_err-count.ensures)
+
+pub returns-in_err-reader-2-clause-reads : goal.returns-in_err-reader-2-clause-reads
+returns-in_err-reader-2-clause-reads g c =
+    memory_ran_out _ c.args.name.now c.read.new.buf c.in_ok-count.count c.from_residual-in_err-reader-2.result _ (g.D.Desk.told c.pieces.desk) _ _ (g.D.Desk.faults c.pieces.desk) _ c.pieces.invariant.fed c.pieces.invariant.kept c.in_ok-count.ensures.cause.kept c.in_ok-count.ensures.reads c.from_residual-in_err-reader-2.ensures
