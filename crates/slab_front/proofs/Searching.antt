@@ -18,7 +18,7 @@ use Rattle.slab_sweep.specs.declared.swept.Swept.{Swept}
 use Rattle.slab_sweep.specs.declared.swept.Swept.TheVariants.{Complete, NoPlan, Budget}
 use Rattle.slab_sweep.specs.Counting.{most_questions, OpensFew, CountsNodes, CountsBares}
 use Rattle.slab_sweep.specs.Made.{nodes_of, bares_of}
-use Rattle.slab_sweep.specs.Swept.{IsSwept, IsSweptAtOnce, IsToldPlainly, made_nodes, added_to}
+use Rattle.slab_sweep.specs.Swept.{AreWithin, HasTreesWithin, IsSwept, IsSweptAtOnce, IsToldPlainly, made_nodes, added_to}
 use Rattle.slab_start.specs.FirstFit.{first_fit, place_orders, by_weight, plan_of_filled}
 use Rattle.slab_start.specs.Made.{made_mill}
 use Rattle.slab_start.proofs.Started.{first_fit_starts}
@@ -56,10 +56,13 @@ counted : (m : Mill) (before : List Point) (limit last_bares : ℕ) (was is : Ta
     → OpensFew m (start limit) new → HaveCauses 0 was s.bare is → new.bare ≤ new.opened
     → CountsNodes (nodes_of (added_to before s.points) + ending_nodes s.ending) (start limit) new
     → CountsBares (bares_of (added_to before s.points) + last_bares) (start limit) new was is
+    → AreWithin limit (added_to before s.points) × (ending_nodes s.ending ≤ limit)
     → IsCounted m before limit last_bares was is s
-counted m before limit last_bares was is new s limits fits opened bare opens causes among nodes bares =
+counted m before limit last_bares was is new s limits fits opened bare opens causes among nodes bares within =
     let end : new.opened < last_count = below_end m limit new limits fits opens in
     record {
+      within = within.0;
+      last_within = within.1;
       limited = omega (arith, opened, opens.limited);
       bounded = omega (arith, opened, opens.bounded);
       nodes = omega (arith, opened, is_reached (nodes_of (added_to before s.points) + ending_nodes s.ending) new.opened end nodes);
@@ -112,6 +115,10 @@ none_before : (before : List Point) (f : List Point → ℕ) (x : ℕ) → befor
 none_before [] f x e zero = omega (arith, zero)
 none_before (point ∷ points) f x e zero = cc
 
+none_within : (before : List Point) (limit : ℕ) → before ≡ [] → AreWithin limit (added_to before [])
+none_within [] limit e = tt
+none_within (point ∷ points) limit e = cc
+
 told_plainly : (m : Mill) → IsPlainMill m → IsToldPlainly (Some first_fit) m
 told_plainly m plain = record {
   plan = plain.plan;
@@ -127,11 +134,11 @@ few_nodes m limit few = omega (arith, mul-le 1 (most_nodes m) (length m.orders +
 
 pub found : (m : Mill) (before : List Point) (limit : ℕ) (was is : Tally) (new : Counts) (swept : Swept) → IsInLimits m → limit ≤ most_limit
     → IsSwept (Some first_fit) m before (start limit) new was is swept
-    → CountsNodes (made_nodes before swept) (start limit) new
+    → CountsNodes (made_nodes before swept) (start limit) new → HasTreesWithin limit before swept
     → (IsToldPlainly (Some first_fit) m → before ≡ [] → IsSweptAtOnce (start limit) new swept)
     → OpensFew m (start limit) new → HaveCauses 0 was new.bare is → new.bare ≤ new.opened
     → IsSearched m before limit was is (status_of (searched swept new.opened new.bare)) (searched swept new.opened new.bare)
-found m before limit was is new (Complete front) limits fits (whole, bares) nodes plain opens causes among =
+found m before limit was is new (Complete front) limits fits (whole, bares) nodes within plain opens causes among =
     let s : Searched = searched (Complete front) new.opened new.bare in
     let good : IsGood m (certificate_of s) = record { ended = whole.good; marks = free_marks (finished_trees (certificate_of s)) } in
     let shows : ShowsFront m (certificate_of s) = record { good = good; whole = tt; some = whole.some } in
@@ -145,10 +152,10 @@ found m before limit was is new (Complete front) limits fits (whole, bares) node
         last = front.last;
         ending = refl;
         made = whole.rest;
-        counts = counted m before limit (bare_marks front.last.marks) was is new s limits fits refl refl opens causes among nodes bares;
+        counts = counted m before limit (bare_marks front.last.marks) was is new s limits fits refl refl opens causes among nodes bares within;
       },
     )
-found m before limit was is new (NoPlan last) limits fits (nothing, bares) nodes plain opens causes among =
+found m before limit was is new (NoPlan last) limits fits (nothing, bares) nodes within plain opens causes among =
     let s : Searched = searched (NoPlan last) new.opened new.bare in
     let good : IsGood m (certificate_of s) = record { ended = nothing.good; marks = free_marks (finished_trees (certificate_of s)) } in
     let shows : ShowsNoPlan m (certificate_of s) = record { good = good; whole = tt; none = refl } in
@@ -164,10 +171,11 @@ found m before limit was is new (NoPlan last) limits fits (nothing, bares) nodes
         made = nothing.rest;
         counts = counted m before limit (bare_marks last.marks) was is new s limits fits refl refl opens causes among
             (subst (λ (x : ℕ). CountsNodes x (start limit) new) (none_before before nodes_of (length last.steps) nothing.none refl) nodes)
-            (subst (λ (x : ℕ). CountsBares x (start limit) new was is) (none_before before bares_of (bare_marks last.marks) nothing.none refl) bares);
+            (subst (λ (x : ℕ). CountsBares x (start limit) new was is) (none_before before bares_of (bare_marks last.marks) nothing.none refl) bares)
+            (none_within before limit nothing.none, within);
       },
     ))
-found m before limit was is new (Budget points rest) limits fits (some, off, bares) nodes plain opens causes among =
+found m before limit was is new (Budget points rest) limits fits (some, off, bares) nodes within plain opens causes among =
     let s : Searched = searched (Budget points rest) new.opened new.bare in
     let good : IsGood m (certificate_of s) = record {
       ended = record { head = off.head; rest = off.cut.cut.open_tree };
@@ -184,7 +192,7 @@ found m before limit was is new (Budget points rest) limits fits (some, off, bar
         cut = off.cut;
         below = few_nodes m limit off.cut.few;
         unplain = λ empty is_plain. (plain (told_plainly m is_plain) empty).answer;
-        counts = counted m before limit some was is new s limits fits refl refl opens causes among nodes bares;
+        counts = counted m before limit some was is new s limits fits refl refl opens causes among nodes bares within;
       },
     ))
 
@@ -192,16 +200,17 @@ found m before limit was is new (Budget points rest) limits fits (some, off, bar
 pub found_from : (m : Mill) (before : List Point) (limit : ℕ) (was is : Tally) (old new : Counts) (swept : Swept) (opened bare : ℕ)
     → old ≡ start limit → opened ≡ new.opened → bare ≡ new.bare → IsInLimits m → limit ≤ most_limit
     → IsSwept (Some first_fit) m before old new was is swept
-    → CountsNodes (made_nodes before swept) old new
+    → CountsNodes (made_nodes before swept) old new → HasTreesWithin old.limit before swept
     → (IsToldPlainly (Some first_fit) m → before ≡ [] → IsSweptAtOnce old new swept)
     → OpensFew m old new → HaveCauses old.bare was new.bare is → new.bare ≤ new.opened
     → IsSearched m before limit was is (status_of (searched swept opened bare)) (searched swept opened bare)
-found_from m before limit was is old new swept opened bare eo e1 e2 limits fits given nodes plain opens causes among =
+found_from m before limit was is old new swept opened bare eo e1 e2 limits fits given nodes within plain opens causes among =
     subst (λ (x : ℕ). IsSearched m before limit was is (status_of (searched swept x bare)) (searched swept x bare)) (sym e1)
     (subst (λ (y : ℕ). IsSearched m before limit was is (status_of (searched swept new.opened y)) (searched swept new.opened y)) (sym e2)
     (found m before limit was is new swept limits fits
     (subst (λ (n : Counts). IsSwept (Some first_fit) m before n new was is swept) eo given)
     (subst (λ (n : Counts). CountsNodes (made_nodes before swept) n new) eo nodes)
+    (subst (λ (n : Counts). HasTreesWithin n.limit before swept) eo within)
     (λ told empty. subst (λ (n : Counts). IsSweptAtOnce n new swept) eo (plain told empty))
     (subst (λ (n : Counts). OpensFew m n new) eo opens)
     (subst (λ (n : Counts). HaveCauses n.bare was new.bare is) eo causes) among))

@@ -1,5 +1,6 @@
 // Each call of a desk fails in turn.
 use crate::desks::Files;
+use crate::resume::CUT;
 use crate::row::{Row, failing_row, run_row};
 use slab_desk::Act;
 use std::alloc::Global;
@@ -8,11 +9,12 @@ use std::test::Fail;
 // More calls of one kind than any run here makes.
 const MANY: u32 = 1000;
 
-// The words, the plan file, and the yard file.
-fn runs() -> [(&'static str, &'static str, &'static str); 2] {
+// The words, the plan file or the cut, and the yard file.
+fn runs() -> [(&'static str, &'static str, &'static str); 3] {
     [
         ("solve orders cert --yard yard", "", "1 9"),
         ("judge orders plan --yard yard", "2 old 1 old 1 1 2", "1 9"),
+        ("resume orders plan cert", CUT, "0"),
     ]
 }
 
