@@ -9,7 +9,7 @@ use Rattle.mill_model.specs.Mill.{Mill, IsInLimits}
 use Rattle.mill_model.specs.Plans.{Plan, IsLegal}
 use Rattle.mill_model.specs.Trees.{most_nodes}
 use Rattle.mill_model.specs.Marks.{MarkedSteps}
-use Rattle.mill_model.specs.Fronts.{Point, IsPoint, IsGoodFrom, IsGoodHead}
+use Rattle.mill_model.specs.Fronts.{Point, IsPoint, IsGoodFrom, IsGoodHead, sums_list}
 use Rattle.slab_relax.specs.declared.tally.Tally.{Tally}
 use Rattle.slab_relax.specs.Tallies.{HaveCauses}
 use Rattle.slab_tree.specs.Counts.{Counts}
@@ -26,9 +26,12 @@ use Rattle.slab_start.proofs.MadePlain.{made_is_plain}
 use Rattle.mill_model.specs.Columns.{Column}
 use Rattle.std.specs.Option.{option_map}
 use Rattle.slab_start.specs.Plain.{IsPlainMill}
-use Rattle.cert_text.specs.Certificates.{IsGood, ShowsFront, ShowsNoPlan, AreMarksOf, finished_trees}
+use Rattle.cert_text.specs.Certificates.{IsGood, ShowsFront, ShowsNoPlan, ShowsCut, AreMarksOf, finished_trees}
 use Rattle.cert_text.specs.Certificates.Ending.{Whole, Cut}
+use Rattle.cert_text.specs.Texts.{certificate_text}
 use Rattle.cert_text.proofs.Shown.{what_is_shown_holds}
+use Rattle.cert_rules.specs.Verdicts.Verdict.{CutOff}
+use Rattle.cert_rules.proofs.Verdicts.{verdicts_hold}
 use Rattle.slab_front.specs.Words.{most_limit}
 use Rattle.slab_front.specs.Searched.{Searched, certificate_of, status_of, status_with, end_word, ending_nodes, IsCounted, HasPlan, attained, FindsFront, IsSearched}
 use Rattle.slab_front.specs.Searches.{searched}
@@ -148,6 +151,7 @@ found m before limit was is new (Complete front) limits fits (whole, bares) node
         plan = some_plan m front.points whole.good.head whole.some;
         points = record { front = (what_is_shown_holds m (certificate_of s)).0 shows; plans = plans_of m None front.points whole.good.head };
         shows = shows;
+        checked = (certificate_of s, refl, (shows, refl));
         goes_on = whole.goes_on;
         last = front.last;
         ending = refl;
@@ -166,6 +170,7 @@ found m before limit was is new (NoPlan last) limits fits (nothing, bares) nodes
         unplain = λ is_plain. (what_is_shown_holds m (certificate_of s)).1 shows is_plain.plan (first_is_legal m is_plain.plan limits is_plain.first);
         points = refl;
         shows = shows;
+        checked = (certificate_of s, refl, shows);
         last = last;
         ending = refl;
         made = nothing.rest;
@@ -181,10 +186,13 @@ found m before limit was is new (Budget points rest) limits fits (some, off, bar
       ended = record { head = off.head; rest = off.cut.cut.open_tree };
       marks = free_marks (finished_trees (certificate_of s));
     } in
+    let shows : ShowsCut m (certificate_of s) = record { good = good; cut = tt } in
     inr (inl (
       cut_status points rest,
       record {
-        shows = record { good = good; cut = tt };
+        leads = verdicts_hold m (certificate_text (certificate_of s)) (CutOff (sums_list points)) (certificate_of s, refl, (shows, refl));
+        shows = shows;
+        checked = (certificate_of s, refl, (shows, refl));
         goes_on = off.goes_on;
         rest = rest;
         ending = refl;

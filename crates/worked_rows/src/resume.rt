@@ -8,8 +8,8 @@ const TWO: &str = "2 4 10 1 2 4 1 4 1";
 
 const THREE_FIVES: &str = "1 10 1 3 5 1 5 1 5 1";
 
-/// A cut of the two orders' front.
-pub const CUT: &str = "slabfront 1\npoint 0 2\nnew 4 1\nnew 4 2\nleaf 1 0 0 0\ncut\nopen\n";
+// A cut of the two orders' front.
+pub(crate) const CUT: &str = "slabfront 1\npoint 0 2\nnew 4 1\nnew 4 2\nleaf 1 0 0 0\ncut\nopen\n";
 
 const NO_POINT: &str = "slabfront 1\ncut\nopen\n";
 
