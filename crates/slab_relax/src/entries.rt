@@ -1,8 +1,7 @@
 //! A column as the master sees it.
 ghost use Rattle.std.specs.Prelude.{◌≡◌, ◌≤◌, ◌++◌, OnOk};
-ghost use Rattle.mill_model.specs.Columns.{IsLegalColumn, IsInStock, loss_of, size_of};
+ghost use Rattle.mill_model.specs.Columns.{IsLegalColumn, IsInStock, loss_of, size_of, column_of};
 ghost use Rattle.slab_master.specs.Given.{IsColumn};
-ghost use Rattle.slab_columns.specs.Columns.{column_of};
 ghost use Rattle.slab_relax.specs.Rows.{row_count, order_entries, slab_entries, loss_entries, count_entries, entries_of};
 
 use mill_model::{Kind, Limits, Mill};
