@@ -1,13 +1,21 @@
-// A library with one function.
+//! Rows of certificates: what `front_check` says of them, over a desk in memory and in pieces.
+//!
+//! Read `desks` (a desk with the files of a row) and `row` (a check over it); the rows are the tests.
 #![tactic(auto)]
 
-ghost use Rattle.std.specs.Prelude.{◌≡◌};
-ghost use Rattle.checked_rows.specs.Echo.{echo_of};
-
-// The `ensures` clause is the contract: what `echo` returns is `echo_of` of its argument, a definition
-// in `specs/Echo.antt`, which a caller's clause can cite too.
-pub fn echo(x: usize) -> usize
-    ensures { result ≡ echo_of x }
-{
-    x
-}
+#[cfg(test)]
+mod bad;
+#[cfg(test)]
+mod deep;
+pub mod desks;
+#[cfg(test)]
+mod faults;
+#[cfg(test)]
+mod good;
+#[cfg(test)]
+mod kept;
+#[cfg(test)]
+mod marks;
+#[cfg(test)]
+mod pieces;
+pub mod row;
