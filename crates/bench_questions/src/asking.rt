@@ -1,16 +1,16 @@
 //! The questions of a mill: the first one without a count limit, each other one for fewer new slabs than the plan before has.
 
-ghost use Rattle.std.specs.Prelude.{◌≡◌, ◌≤◌, IfOk, IfSome};
+ghost use Rattle.std.specs.Prelude.{◌≡◌, ◌≤◌};
 ghost use Rattle.mill_model.specs.Limits.{number_of};
-ghost use Rattle.mill_model.specs.Starts.{IsStart};
 ghost use Rattle.slab_master.specs.Given.{IsSmall};
 
 use loss_table::LossTable;
 use mill_model::{Mill, Plan, Starter, Steps, Sums};
+use question_rows::asked::{Asked, ask};
 use slab_columns::Pool;
 use slab_node::Tally;
 use slab_start::FirstFit;
-use slab_tree::{Ended, Nodes, Tree};
+use slab_tree::Nodes;
 use std::alloc::{AllocError, Global};
 use std::io;
 
@@ -37,7 +37,7 @@ pub fn ask_all<R: AllocGlobal + Print>(rt: &R, mill: &Mill, limit: u64) -> io::R
     let mut count = None;
     'questions: for _ in 0..MOST_QUESTIONS {
         let before = nodes.opened();
-        let answer = ask(alloc, mill, &table, &mut pool, count, &mut nodes, &mut tally)?;
+        let answer = ask_within(alloc, mill, &table, &mut pool, count, &mut nodes, &mut tally)?;
         print_answer(rt, count, answer, nodes.opened().saturating_sub(before))?;
         match answer {
             Answer::Least(sums, _) => count = below(sums),
@@ -48,7 +48,7 @@ pub fn ask_all<R: AllocGlobal + Print>(rt: &R, mill: &Mill, limit: u64) -> io::R
 }
 
 // One question, with the first-fit plan within its count limit as the best one so far.
-fn ask(
+fn ask_within(
     alloc: Global,
     mill: &Mill,
     table: &LossTable,
@@ -62,20 +62,11 @@ fn ask(
     requires pool { pool.old.mill ≡ mill.now }
     ensures pool { pool.new.mill ≡ mill.now }
 {
-    let _before = nodes.opened();
-    let _limit = nodes.limit();
     let best = FirstFit::new().start(alloc, mill, count)?;
-    let mut tree = Tree::question(alloc, mill, count, best)?;
-    match tree.run(alloc, mill, table, pool, nodes, tally)? {
-        Ended::Least(plan) => {
-            let tight = tree.tighten(alloc, mill, table, pool, nodes, tally)?;
-            Ok(least(mill, &plan, &tight.steps(alloc)?))
-        }
-        Ended::NoPlan => {
-            let tight = tree.tighten(alloc, mill, table, pool, nodes, tally)?;
-            Ok(Answer::NoPlan(tight.steps(alloc)?.marks().len()))
-        }
-        Ended::Budget => Ok(Answer::Budget),
+    match ask(alloc, mill, table, pool, count, best, nodes, tally)? {
+        Asked::Least(plan, steps) => Ok(least(mill, &plan, &steps)),
+        Asked::NoPlan(steps) => Ok(Answer::NoPlan(steps.marks().len())),
+        Asked::Budget(_tree) => Ok(Answer::Budget),
     }
 }
 

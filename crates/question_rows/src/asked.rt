@@ -1,57 +1,57 @@
-//! A question without a count limit, run to its end.
+//! One question, run to its end.
 
-ghost use Rattle.std.specs.Prelude.{◌≤◌, IfOk, IfSome, None};
+ghost use Rattle.std.specs.Prelude.{◌≡◌, IfSome};
+ghost use Rattle.mill_model.specs.Limits.{number_of};
 ghost use Rattle.mill_model.specs.Starts.{IsStart};
+ghost use Rattle.slab_master.specs.Given.{IsSmall};
 
 use loss_table::LossTable;
-use mill_model::{Mill, OpenTree, Plan, Starter, Steps};
+use mill_model::{Mill, OpenTree, Plan, Steps};
 use slab_columns::Pool;
 use slab_node::Tally;
-use slab_start::FirstFit;
 use slab_tree::{Ended, Nodes, Tree};
 use std::alloc::{AllocError, Global};
 
-/// What a question came to, with the nodes that were opened for it.
+/// What a question came to.
 #[derive(Drop)]
 pub enum Asked {
     /// The plan of least loss, and the tightened tree.
-    Least(Plan, Steps, u64),
+    Least(Plan, Steps),
     /// The tightened tree.
-    NoPlan(Steps, u64),
+    NoPlan(Steps),
     /// The open tree.
-    Budget(OpenTree, u64),
+    Budget(OpenTree),
 }
 
-/// Asks with the first-fit plan as the best one so far, or with none, and opens so many nodes at most.
-pub fn ask(alloc: Global, mill: &Mill, starts: bool, limit: u64) -> Result<Asked, AllocError>
-    requires { 1 ≤ limit }
+/// Asks for the plan of least loss within a count limit. Some plan within it may be handed in.
+pub fn ask(
+    alloc: Global,
+    mill: &Mill,
+    table: &LossTable,
+    pool: &mut Pool,
+    count: Option<i64>,
+    best: Option<Plan>,
+    nodes: &mut Nodes,
+    tally: &mut Tally,
+) -> Result<Asked, AllocError>
+    requires count { IsSmall (number_of count) }
+    requires best { IfSome best (IsStart mill.now count) }
+    requires sizes { table.now ≡ mill.now.sizes }
+    requires pool { pool.old.mill ≡ mill.now }
+    ensures pool { pool.new.mill ≡ mill.now }
 {
-    let table = LossTable::new(alloc, mill)?;
-    let mut pool = Pool::new(alloc, mill)?;
-    let mut nodes = Nodes::new(limit);
     let _before = nodes.opened();
-    let mut tally = Tally::new();
-    let best = start_of(alloc, mill, starts)?;
-    let mut tree = Tree::question(alloc, mill, None, best)?;
-    match tree.run(alloc, mill, &table, &mut pool, &mut nodes, &mut tally)? {
+    let _limit = nodes.limit();
+    let mut tree = Tree::question(alloc, mill, count, best)?;
+    match tree.run(alloc, mill, table, pool, nodes, tally)? {
         Ended::Least(plan) => {
-            let tight = tree.tighten(alloc, mill, &table, &mut pool, &mut nodes, &mut tally)?;
-            Ok(Asked::Least(plan, tight.steps(alloc)?, nodes.opened()))
+            let tight = tree.tighten(alloc, mill, table, pool, nodes, tally)?;
+            Ok(Asked::Least(plan, tight.steps(alloc)?))
         }
         Ended::NoPlan => {
-            let tight = tree.tighten(alloc, mill, &table, &mut pool, &mut nodes, &mut tally)?;
-            Ok(Asked::NoPlan(tight.steps(alloc)?, nodes.opened()))
+            let tight = tree.tighten(alloc, mill, table, pool, nodes, tally)?;
+            Ok(Asked::NoPlan(tight.steps(alloc)?))
         }
-        Ended::Budget => Ok(Asked::Budget(tree.open_tree(alloc)?, nodes.opened())),
+        Ended::Budget => Ok(Asked::Budget(tree.open_tree(alloc)?)),
     }
-}
-
-// The plan that a question starts with.
-fn start_of(alloc: Global, mill: &Mill, starts: bool) -> Result<Option<Plan>, AllocError>
-    ensures { IfOk result (λ best. IfSome best (IsStart mill.now None)) }
-{
-    if !starts {
-        return Ok(None);
-    }
-    FirstFit::new().start(alloc, mill, None)
 }

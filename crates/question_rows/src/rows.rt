@@ -1,7 +1,15 @@
+ghost use Rattle.std.specs.Prelude.{IfOk, IfSome, None};
+ghost use Rattle.mill_model.specs.Starts.{IsStart};
+
 use crate::asked::{Asked, ask};
 use crate::leaves::refute;
-use mill_model::{Kind, Limits, Mark, Mill, Shown};
+use loss_table::LossTable;
+use mill_model::{Kind, Limits, Mark, Mill, Plan, Shown, Starter, Steps};
 use mill_read::{read_orders, read_yard};
+use slab_columns::Pool;
+use slab_node::Tally;
+use slab_start::FirstFit;
+use slab_tree::Nodes;
 use std::alloc::{AllocError, Global};
 use std::test::Fail;
 
@@ -42,32 +50,68 @@ fn mill_of(alloc: Global, orders: &str, yard: &str, colours: u16) -> Option<Mill
     Some(mill)
 }
 
+// What a question without a count limit came to, with the nodes that were opened for it.
+fn asked(
+    alloc: Global,
+    mill: &Mill,
+    starts: bool,
+    limit: u64,
+) -> Result<(Asked, u64), AllocError> {
+    let table = LossTable::new(alloc, mill)?;
+    let mut pool = Pool::new(alloc, mill)?;
+    let mut nodes = Nodes::new(limit.max(1));
+    let mut tally = Tally::new();
+    let best = start_of(alloc, mill, starts)?;
+    let asked = ask(alloc, mill, &table, &mut pool, None, best, &mut nodes, &mut tally)?;
+    Ok((asked, nodes.opened()))
+}
+
+// The plan that a question starts with.
+fn start_of(alloc: Global, mill: &Mill, starts: bool) -> Result<Option<Plan>, AllocError>
+    ensures { IfOk result (λ best. IfSome best (IsStart mill.now None)) }
+{
+    if !starts {
+        return Ok(None);
+    }
+    FirstFit::new().start(alloc, mill, None)
+}
+
 fn came_to(alloc: Global, question: Question) -> Result<Came, AllocError> {
     let (orders, yard, colours, starts, limit) = question;
     let Some(mill) = mill_of(alloc, orders, yard, colours) else {
         return Ok(Came::Nothing);
     };
-    match ask(alloc, &mill, starts, limit.max(1))? {
-        Asked::Least(plan, steps, opened) => match plan.judge(&mill) {
-            Ok(sums) => {
-                let less = Limits {
-                    loss: Some(i64::from(sums.loss) - 1),
-                    count: None,
-                };
-                let refuted = refute(alloc, &mill, less, steps.list())?;
-                Ok(Came::Least(sums.loss, opened, refuted))
-            }
-            Err(_) => Ok(Came::Nothing),
-        },
-        Asked::NoPlan(steps, opened) => {
+    let (asked, opened) = asked(alloc, &mill, starts, limit)?;
+    match asked {
+        Asked::Least(plan, steps) => least(alloc, &mill, &plan, &steps, opened),
+        Asked::NoPlan(steps) => {
             let every = Limits {
                 loss: None,
                 count: None,
             };
-            Ok(Came::NoPlan(opened, refute(alloc, &mill, every, steps.list())?))
+            let refuted = refute(alloc, &mill, every, steps.list())?;
+            Ok(Came::NoPlan(opened, refuted))
         }
-        Asked::Budget(tree, opened) => Ok(Came::Budget(opened, tree.list().len())),
+        Asked::Budget(tree) => Ok(Came::Budget(opened, tree.list().len())),
     }
+}
+
+fn least(
+    alloc: Global,
+    mill: &Mill,
+    plan: &Plan,
+    steps: &Steps,
+    opened: u64,
+) -> Result<Came, AllocError> {
+    let Ok(sums) = plan.judge(mill) else {
+        return Ok(Came::Nothing);
+    };
+    let less = Limits {
+        loss: Some(i64::from(sums.loss) - 1),
+        count: None,
+    };
+    let refuted = refute(alloc, mill, less, steps.list())?;
+    Ok(Came::Least(sums.loss, opened, refuted))
 }
 
 fn rows() -> [(Question, Came); 8] {
@@ -124,8 +168,8 @@ fn each_leaf_refutes_less_loss(rt: HostRuntime) -> Result<(), Fail> {
 fn one_split_shows_three_pairs(rt: HostRuntime) -> Result<(), Fail> {
     let alloc = rt.alloc();
     let holds = match mill_of(alloc, THREE_PAIRS, "0", 2) {
-        Some(mill) => match ask(alloc, &mill, true, 3)? {
-            Asked::Least(plan, steps, _) => {
+        Some(mill) => match &asked(alloc, &mill, true, 3)?.0 {
+            Asked::Least(plan, steps) => {
                 matches!(plan.place(), [0, 0, 1])
                     && steps.list().len() == 3
                     && are_three_pairs(steps.marks())
