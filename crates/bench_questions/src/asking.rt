@@ -37,7 +37,9 @@ pub fn ask_all<R: AllocGlobal + Print>(rt: &R, mill: &Mill, limit: u64) -> io::R
     let mut count = None;
     'questions: for _ in 0..MOST_QUESTIONS {
         let before = nodes.opened();
-        let answer = ask_within(alloc, mill, &table, &mut pool, count, &mut nodes, &mut tally)?;
+        let answer = ask_within(
+            alloc, mill, &table, &mut pool, count, &mut nodes, &mut tally,
+        )?;
         print_answer(rt, count, answer, nodes.opened().saturating_sub(before))?;
         match answer {
             Answer::Least(sums, _) => count = below(sums),
@@ -97,7 +99,10 @@ fn print_answer<R: Print>(
     }
     match answer {
         Answer::Least(sums, splits) => {
-            println!(rt; "least {} {} nodes {nodes} splits {splits}", sums.loss, sums.count)
+            println!(rt;
+                "least {} {} nodes {nodes} splits {splits}",
+                sums.loss, sums.count
+            )
         }
         Answer::NoPlan(splits) => println!(rt; "noplan nodes {nodes} splits {splits}"),
         Answer::Budget => println!(rt; "budget nodes {nodes}"),

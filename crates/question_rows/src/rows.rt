@@ -51,18 +51,15 @@ fn mill_of(alloc: Global, orders: &str, yard: &str, colours: u16) -> Option<Mill
 }
 
 // What a question without a count limit came to, with the nodes that were opened for it.
-fn asked(
-    alloc: Global,
-    mill: &Mill,
-    starts: bool,
-    limit: u64,
-) -> Result<(Asked, u64), AllocError> {
+fn asked(alloc: Global, mill: &Mill, starts: bool, limit: u64) -> Result<(Asked, u64), AllocError> {
     let table = LossTable::new(alloc, mill)?;
     let mut pool = Pool::new(alloc, mill)?;
     let mut nodes = Nodes::new(limit.max(1));
     let mut tally = Tally::new();
     let best = start_of(alloc, mill, starts)?;
-    let asked = ask(alloc, mill, &table, &mut pool, None, best, &mut nodes, &mut tally)?;
+    let asked = ask(
+        alloc, mill, &table, &mut pool, None, best, &mut nodes, &mut tally,
+    )?;
     Ok((asked, nodes.opened()))
 }
 
