@@ -34,7 +34,7 @@ good_head m bytes (cuts.Head points) is =
 good_head m bytes (cuts.No line broken) is = tt
 
 -- bytes with a bad line spell no good cut
-never_both : (m : Mill) (bytes : List ℕ) (points : List Point) (n : ℕ) (broken : Why) → IsInLimits m → SpellsCut m bytes points → IsFirstBad m Cuts bytes n broken → ⊥
+pub never_both : (m : Mill) (bytes : List ℕ) (points : List Point) (n : ℕ) (broken : Why) → IsInLimits m → SpellsCut m bytes points → IsFirstBad m Cuts bytes n broken → ⊥
 never_both m bytes points n broken within spells bad =
     let accepted = (accepted_exactly m Cuts bytes within).1 (spells.certificate, record { good = spells.shows.good; ends = spells.shows.cut }, spells.spelled) in
     one_first_bad_line.0 m Cuts bytes accepted.0 n broken accepted.1 bad

@@ -53,6 +53,7 @@ pub fn search_front(
     ensures found { IfOk result (λ s. IsSearched mill.now before limit tally.old tally.new (status_of s) s) }
     ensures counters { AreNoLess tally.old tally.new }
 {
+    // Its readers tell that a mill is within its limits.
     let _orders = mill.orders();
     let none = no_points(alloc);
     let mut nodes = Nodes::new(limit);
