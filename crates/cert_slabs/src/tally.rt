@@ -23,10 +23,14 @@ use std::marker::Model;
 /// and the losses and the new slabs, each times its multiplier.
 #[derive(Drop)]
 pub struct Tally {
+    // at most 2^62
     d: u64,
     begun: bool,
+    // Each grows by a multiplier of at most 2^62 and is then tested against d, so it stays below 2^63.
     covered: Vec<u64>,
     used: Vec<u64>,
+    // Every share covers an order, and each of 250 orders is covered at most d times. So the multipliers sum to at most
+    // 250 d, and since a slab loses less than 2^16, the two sums stay below 2^86.
     lost: u128,
     opened: u128,
 }
