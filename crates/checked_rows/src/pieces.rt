@@ -1,6 +1,6 @@
 // Certificates by `check` alone, and their proper prefixes.
-use crate::row::{Given, THREE, TWO, ends_so, lines};
-use front_check::{LineWhy, Points, Verdict, check};
+use crate::row::{THREE, TWO, ends_so, lines};
+use front_check::{LineWhy, Verdict, check};
 use mill_model::{Kind, Mill, Sums};
 use mill_read::read_orders;
 use std::alloc::{AllocError, Global};
@@ -15,28 +15,44 @@ const SPLIT: &str =
 const EXCEEDED: &str =
     "slabfront 1 / point 0 2 / new 4 1 / new 4 2 / leaf 1 0 0 0 / point 2 1 / new 10 1 2 / leaf 1 2 2 2 / done / leaf 0 1 1 1";
 
+// Whether the front has these points.
+fn is_front(verdict: &Verdict, sums: &[Sums]) -> bool {
+    match verdict {
+        Verdict::Front(points) => points.list() == sums,
+        _ => false,
+    }
+}
+
+// Whether line 10 is a leaf that a slab of size 10 with both orders exceeds.
+fn is_exceeded_by_both(verdict: &Verdict) -> bool {
+    match verdict {
+        Verdict::No { line, why } => *line == 10 && carries_both(why),
+        _ => false,
+    }
+}
+
+fn carries_both(why: &LineWhy) -> bool {
+    match why {
+        LineWhy::Column { kind, orders } => *kind == Kind::New(10)
+            && orders.list() == [0, 1].as_slice(),
+        _ => false,
+    }
+}
+
+fn answer(alloc: Global, text: &str) -> Result<Verdict, Fail> {
+    let mill = read_orders(alloc, TWO.orders.as_bytes())?;
+    let bytes = lines(alloc, text)?;
+    let verdict = check(alloc, &mill, &bytes)?;
+    Ok(verdict)
+}
+
 #[test]
 fn what_check_answers(rt: HostRuntime) -> Result<(), Fail> {
-    let alloc = rt.alloc();
-    let mill = read_orders(alloc, TWO.orders.as_bytes())?;
-    let front = check(alloc, &mill, &lines(alloc, WHOLE)?)?;
-    let Verdict::Front(points) = front else {
-        assert!(rt; false);
-        return Ok(());
-    };
     let sums = [Sums { loss: 0, count: 2 }, Sums { loss: 2, count: 1 }];
-    assert_eq!(rt; points.list(), sums.as_slice());
-    let refused = check(alloc, &mill, &lines(alloc, EXCEEDED)?)?;
-    let Verdict::No {
-        line: 10,
-        why: LineWhy::Column { kind, orders },
-    } = refused
-    else {
-        assert!(rt; false);
-        return Ok(());
-    };
-    assert!(rt; kind == Kind::New(10));
-    assert_eq!(rt; orders.list(), [0, 1].as_slice());
+    let whole = answer(rt.alloc(), WHOLE)?;
+    assert!(rt; is_front(&whole, &sums));
+    let exceeded = answer(rt.alloc(), EXCEEDED)?;
+    assert!(rt; is_exceeded_by_both(&exceeded));
     Ok(())
 }
 
