@@ -1,4 +1,4 @@
-// Columns one after the other in one list of orders.
+//! Columns one after the other in one list of orders.
 ghost use Rattle.std.specs.Prelude.{◌≡◌, ◌↔◌, ℕ, ◌+◌, ◌<◌, ◌≤◌, ◌++◌, ◌∷◌, [], drop, length, slice_get, All, Contains, IfSome, IfNone, IsTrue, Some, vec_len};
 ghost use Rattle.std.specs.Vec.{vec_capacity};
 ghost use Rattle.mill_model.specs.Columns.{column_of, lent_column};

@@ -1,4 +1,4 @@
-// Which columns of a pool were basic last.
+//! Which columns of a pool were basic last.
 ghost use Rattle.std.specs.Prelude.{◌≡◌, ℕ, ◌<◌, ◌≤◌, [], length, OnOk};
 ghost use Rattle.std.specs.Vec.{vec_capacity};
 ghost use Rattle.slab_columns.specs.Recency.{AreBelow};

@@ -1,5 +1,8 @@
 //! The pool of columns that the search shares: legal for one mill, distinct, in the order in which they came, and found by
 //! their numbers or by what they are.
+//!
+//! Read `pool` first (what others call), then `column` and `flat` (columns in one list of orders), `index` (from a column to
+//! its number), `last_basic` (which were basic), `fulls` and `add_error` (what a full pool answers), and `mill_copy`.
 #![tactic(auto)]
 
 mod add_error;

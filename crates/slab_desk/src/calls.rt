@@ -1,4 +1,4 @@
-// The calls of a desk by kind, their counts, and which of them are to fail.
+//! The calls of a desk by kind, their counts, and which of them are to fail.
 ghost use Rattle.std.specs.Prelude.{◌≡◌, ◌↔◌, IsTrue, Contains};
 ghost use Rattle.slab_counter.specs.Counter.{next_count};
 ghost use Rattle.slab_desk.specs.Calls.{count_of, with_call};

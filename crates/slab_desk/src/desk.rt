@@ -1,4 +1,4 @@
-// What a program asks of the outside, and what its answers mean.
+//! What a program asks of the outside, and what its answers mean.
 ghost use Rattle.std.specs.Prelude.{ℕ, ◌≡◌, ◌<◌, ◌≤◌, Bool, true, Option, length, take, IfOk};
 ghost use Rattle.std.specs.Result.{is_err};
 ghost use Rattle.slab_counter.specs.Counter.{next_count};

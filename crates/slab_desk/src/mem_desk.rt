@@ -1,4 +1,4 @@
-// A desk in memory, which fails where it is told to.
+//! A desk in memory, which fails where it is told to.
 ghost use Rattle.std.specs.Prelude.{◌≡◌, ◌≢◌, ◌⊎◌, ◌<◌, ◌≤◌, ◌↔◌, ◌-◌, ◌++◌, length, min, take, drop, None, Some, IsErr, IfOk, OnOk, OnErr, All, AllPairs, MatchOption, vec_len};
 ghost use Rattle.std.specs.FinMap.{get};
 ghost use Rattle.std.specs.Result.{is_err};

@@ -1,4 +1,4 @@
-// Files in memory, found by name.
+//! Files in memory, found by name.
 ghost use Rattle.std.specs.Prelude.{◌≡◌, ◌<◌, None, Some, IfSome, IfNone, slice_index_or};
 ghost use Rattle.std.specs.FinMap.{get};
 ghost use Rattle.slab_desk.specs.declared.mem_file.MemFile.{MemFile};

@@ -1,4 +1,4 @@
-// Files and standard output as the system has them.
+//! Files and standard output as the system has them.
 ghost use Rattle.std.specs.Prelude.{◌≡◌, None, false};
 
 use crate::desk::fault;

@@ -1,4 +1,4 @@
-// Bytes for which memory was taken before.
+//! Bytes for which memory was taken before.
 ghost use Rattle.std.specs.Prelude.{◌≡◌, ◌+◌, ◌-◌, ◌≤◌, ◌<◌, [], ◌++◌, length, min, IfOk, IfSome, IfNone};
 
 use std::alloc::{AllocError, Global};

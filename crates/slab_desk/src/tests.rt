@@ -1,4 +1,4 @@
-// Which call fails by the table, and what is left of a run that goes on after it.
+//! Which call fails by the table, and what is left of a run that goes on after it.
 use crate::{Act, Desk, MemDesk, ReadFail, read_all, say_all, write_all};
 use std::alloc::{AllocError, Global};
 use std::test::Fail;

@@ -1,4 +1,4 @@
-// Whole files and whole texts, over a desk that moves some bytes at a time.
+//! Whole files and whole texts, over a desk that moves some bytes at a time.
 ghost use Rattle.std.specs.Prelude.{◌≡◌, ◌≤◌, ◌+◌, false, [], length, IfOk, OnOk, OnErr, IsErrOf};
 ghost use Rattle.slab_counter.specs.Counter.{Rose};
 ghost use Rattle.slab_desk.specs.Causes.{HasCause, is_fault, is_stopped_after};
