@@ -16,7 +16,7 @@ use Rattle.slab_tree.specs.Counts.{Counts}
 use Rattle.slab_tree.specs.Marking.{bare_marks}
 use Rattle.slab_sweep.specs.declared.swept.Swept.{Swept}
 use Rattle.slab_sweep.specs.declared.swept.Swept.TheVariants.{Complete, NoPlan, Budget}
-use Rattle.slab_sweep.specs.Counting.{most_questions, OpensFew, CountsNodes, CountsBares}
+use Rattle.slab_sweep.specs.Counting.{most_questions, questions_left, OpensFew, CountsNodes, CountsBares}
 use Rattle.slab_sweep.specs.Made.{nodes_of, bares_of}
 use Rattle.slab_sweep.specs.Swept.{IsSwept, IsSweptAtOnce, IsToldPlainly, made_nodes, added_to}
 use Rattle.slab_start.specs.FirstFit.{first_fit, place_orders, by_weight, plan_of_filled}
@@ -43,7 +43,7 @@ few_questions : (m : Mill) → IsInLimits m → most_questions m ≤ 252
 few_questions m limits = omega (arith, limits.order_count)
 
 -- so few nodes are opened that their count doesn't come to its end
-below_end : (m : Mill) (limit : ℕ) (new : Counts) → IsInLimits m → limit ≤ most_limit → OpensFew m (start limit) new → new.opened < last_count
+below_end : (m : Mill) (limit : ℕ) (new : Counts) → IsInLimits m → limit ≤ most_limit → OpensFew m (most_questions m) (start limit) new → new.opened < last_count
 below_end m limit new limits fits opens =
     omega (arith, opens.limited, mul-le (most_questions m) limit 252 1000000000000000 (few_questions m limits) fits)
 
@@ -53,7 +53,7 @@ is_reached made count below (inr h) = absurd (omega arith)
 
 counted : (m : Mill) (limit last_bares : ℕ) (was is : Tally) (new : Counts) (s : Searched)
     → IsInLimits m → limit ≤ most_limit → s.opened ≡ new.opened → s.bare ≡ new.bare
-    → OpensFew m (start limit) new → HaveCauses 0 was s.bare is → new.bare ≤ new.opened
+    → OpensFew m (most_questions m) (start limit) new → HaveCauses 0 was s.bare is → new.bare ≤ new.opened
     → CountsNodes (nodes_of (added_to [] s.points) + ending_nodes s.ending) (start limit) new
     → CountsBares (bares_of (added_to [] s.points) + last_bares) (start limit) new was is
     → IsCounted m [] limit last_bares was is s
@@ -127,7 +127,7 @@ pub found : (m : Mill) (limit : ℕ) (was is : Tally) (new : Counts) (swept : Sw
     → IsSwept (Some first_fit) m [] (start limit) new was is swept
     → CountsNodes (made_nodes [] swept) (start limit) new
     → (IsToldPlainly (Some first_fit) m → ◌≡◌ {A = List Point} [] [] → IsSweptAtOnce (start limit) new swept)
-    → OpensFew m (start limit) new → HaveCauses 0 was new.bare is → new.bare ≤ new.opened
+    → OpensFew m (most_questions m) (start limit) new → HaveCauses 0 was new.bare is → new.bare ≤ new.opened
     → IsSearched m [] limit was is (status_of (searched swept new.opened new.bare)) (searched swept new.opened new.bare)
 found m limit was is new (Complete front) limits fits (whole, bares) nodes plain opens causes among =
     let s : Searched = searched (Complete front) new.opened new.bare in
@@ -192,7 +192,7 @@ pub found_from : (m : Mill) (limit : ℕ) (was is : Tally) (old new : Counts) (h
     → IsSwept (Some first_fit) m head old new was is swept
     → CountsNodes (made_nodes head swept) old new
     → (IsToldPlainly (Some first_fit) m → head ≡ [] → IsSweptAtOnce old new swept)
-    → OpensFew m old new → HaveCauses old.bare was new.bare is → new.bare ≤ new.opened
+    → OpensFew m (questions_left m head) old new → HaveCauses old.bare was new.bare is → new.bare ≤ new.opened
     → IsSearched m [] limit was is (status_of (searched swept opened bare)) (searched swept opened bare)
 found_from m limit was is old new head swept opened bare eo eh e1 e2 limits fits given nodes plain opens causes among =
     subst (λ (x : ℕ). IsSearched m [] limit was is (status_of (searched swept x bare)) (searched swept x bare)) (sym e1)
@@ -201,7 +201,7 @@ found_from m limit was is old new head swept opened bare eo eh e1 e2 limits fits
     (subst (λ (n : Counts). IsSwept (Some first_fit) m [] n new was is swept) eo (subst (λ (h : List Point). IsSwept (Some first_fit) m h old new was is swept) eh given))
     (subst (λ (n : Counts). CountsNodes (made_nodes [] swept) n new) eo (subst (λ (h : List Point). CountsNodes (made_nodes h swept) old new) eh nodes))
     (λ told none. subst (λ (n : Counts). IsSweptAtOnce n new swept) eo (plain told eh))
-    (subst (λ (n : Counts). OpensFew m n new) eo opens)
+    (subst (λ (n : Counts). OpensFew m (most_questions m) n new) eo (subst (λ (h : List Point). OpensFew m (questions_left m h) old new) eh opens))
     (subst (λ (n : Counts). HaveCauses n.bare was new.bare is) eo causes) among))
 
 -- a made mill has a front
