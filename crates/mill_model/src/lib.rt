@@ -54,6 +54,7 @@ pub use mark::Mark;
 pub use mill::Mill;
 pub use numbers::{
     MOST_BARS, MOST_COLOUR_LIMIT, MOST_COLOURS, MOST_ORDERS, MOST_SIZES, MOST_SLABS, MOST_WEIGHT,
+    USUAL_COLOUR_LIMIT,
 };
 pub use open_tree::OpenTree;
 pub use order::Order;

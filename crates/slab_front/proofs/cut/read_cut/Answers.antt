@@ -37,28 +37,28 @@ returns-then-failed-clause-read g c =
     let m : Mill = c.args.mill.now in
     let fed = c.pieces.invariant.fed in
     let bad : HasBadLine Cuts m fed.bytes = subst (λ (x : Mill). HasBadLine Cuts x fed.bytes) c.pieces.invariant.mill (is_bad _ _ c.failed.result c.failed.ensures.exact c.if-failed.true fed.stands) in
-    let read : IsReadCut m c.end.result fed.bytes = was_read m fed.bytes c.end.result (subst (λ (x : Mill). IsCutRead x fed.bytes c.end.result) c.pieces.invariant.mill (c.end.ensures fed.bytes fed.stands)) in
+    let read : IsReadCut m c.end.result fed.bytes = was_read m fed.bytes c.end.result (subst (λ (x : Mill). IsCutRead x fed.bytes c.end.result) c.pieces.invariant.mill (c.end.ensures.read fed.bytes fed.stands)) in
     there_bad (IsReadCut m c.end.result) c.args.name.now fed.bytes _ _ (λ more. bad_stays m fed.bytes more c.end.result c.pieces.invariant.within bad read) fed.reads
 
 pub returns-then-failed-clause-good : goal.returns-then-failed-clause-good
 returns-then-failed-clause-good g c =
     let m : Mill = c.args.mill.now in
     let fed = c.pieces.invariant.fed in
-    good_head m fed.bytes c.end.result (was_read m fed.bytes c.end.result (subst (λ (x : Mill). IsCutRead x fed.bytes c.end.result) c.pieces.invariant.mill (c.end.ensures fed.bytes fed.stands)))
+    good_head m fed.bytes c.end.result (was_read m fed.bytes c.end.result (subst (λ (x : Mill). IsCutRead x fed.bytes c.end.result) c.pieces.invariant.mill (c.end.ensures.read fed.bytes fed.stands)))
 
 pub returns-then-count-eq0-clause-read : goal.returns-then-count-eq0-clause-read
 returns-then-count-eq0-clause-read g c =
     let m : Mill = c.args.mill.now in
     let fed = c.pieces.invariant.fed in
     let some : 0 < length c.read.new.buf = grind (arith, common_steps) in
-    let read : IsReadCut m c.end-then-count-eq0.result fed.bytes = was_read m fed.bytes c.end-then-count-eq0.result (subst (λ (x : Mill). IsCutRead x fed.bytes c.end-then-count-eq0.result) c.pieces.invariant.mill (c.end-then-count-eq0.ensures fed.bytes fed.stands)) in
+    let read : IsReadCut m c.end-then-count-eq0.result fed.bytes = was_read m fed.bytes c.end-then-count-eq0.result (subst (λ (x : Mill). IsCutRead x fed.bytes c.end-then-count-eq0.result) c.pieces.invariant.mill (c.end-then-count-eq0.ensures.read fed.bytes fed.stands)) in
     there_whole (IsReadCut m c.end-then-count-eq0.result) c.args.name.now fed.bytes c.read.new.buf c.in_ok-count.count _ _ _ c.if-count-eq0.true some read fed.reads c.in_ok-count.ensures.reads
 
 pub returns-then-count-eq0-clause-good : goal.returns-then-count-eq0-clause-good
 returns-then-count-eq0-clause-good g c =
     let m : Mill = c.args.mill.now in
     let fed = c.pieces.invariant.fed in
-    good_head m fed.bytes c.end-then-count-eq0.result (was_read m fed.bytes c.end-then-count-eq0.result (subst (λ (x : Mill). IsCutRead x fed.bytes c.end-then-count-eq0.result) c.pieces.invariant.mill (c.end-then-count-eq0.ensures fed.bytes fed.stands)))
+    good_head m fed.bytes c.end-then-count-eq0.result (was_read m fed.bytes c.end-then-count-eq0.result (subst (λ (x : Mill). IsCutRead x fed.bytes c.end-then-count-eq0.result) c.pieces.invariant.mill (c.end-then-count-eq0.ensures.read fed.bytes fed.stands)))
 
 pub returns-in_err-count-clause-reads : goal.returns-in_err-count-clause-reads
 returns-in_err-count-clause-reads g c =
