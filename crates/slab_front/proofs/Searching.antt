@@ -16,8 +16,9 @@ use Rattle.slab_tree.specs.Counts.{Counts}
 use Rattle.slab_tree.specs.Marking.{bare_marks}
 use Rattle.slab_sweep.specs.declared.swept.Swept.{Swept}
 use Rattle.slab_sweep.specs.declared.swept.Swept.TheVariants.{Complete, NoPlan, Budget}
-use Rattle.slab_sweep.specs.Counting.{most_questions, OpensFew, CountsNodes, CountsBares}
+use Rattle.slab_sweep.specs.Counting.{questions_left, OpensFew, CountsNodes, CountsBares}
 use Rattle.slab_sweep.specs.Made.{nodes_of, bares_of}
+use Rattle.slab_sweep.proofs.Progress.{few_left}
 use Rattle.slab_sweep.specs.Swept.{AreWithin, HasTreesWithin, IsSwept, IsSweptAtOnce, IsToldPlainly, made_nodes, added_to}
 use Rattle.slab_start.specs.FirstFit.{first_fit, place_orders, by_weight, plan_of_filled}
 use Rattle.slab_start.specs.Made.{made_mill}
@@ -42,27 +43,28 @@ start limit = record { limit = limit; opened = 0; bare = 0 }
 
 -- ---- counts
 
-few_questions : (m : Mill) → IsInLimits m → most_questions m ≤ 252
-few_questions m limits = omega (arith, limits.order_count)
+few_questions : (m : Mill) (before : List Point) → IsInLimits m → IsGoodHead m before → questions_left m before ≤ 252
+few_questions m before limits good = omega (arith, limits.order_count, few_left m before good)
 
 -- so few nodes are opened that their count doesn't come to its end
-below_end : (m : Mill) (limit : ℕ) (new : Counts) → IsInLimits m → limit ≤ most_limit → OpensFew m (start limit) new → new.opened < last_count
-below_end m limit new limits fits opens =
-    omega (arith, opens.limited, mul-le (most_questions m) limit 252 1000000000000000 (few_questions m limits) fits)
+below_end : (m : Mill) (before : List Point) (limit : ℕ) (new : Counts) → IsInLimits m → IsGoodHead m before → limit ≤ most_limit
+    → OpensFew m (questions_left m before) (start limit) new → new.opened < last_count
+below_end m before limit new limits good fits opens =
+    omega (arith, opens.limited, mul-le (questions_left m before) limit 252 1000000000000000 (few_questions m before limits good) fits)
 
 is_reached : (made count : ℕ) → count < last_count → (0 + made ≤ count) ⊎ (last_count ≤ count) → made ≤ count
 is_reached made count below (inl h) = omega arith
 is_reached made count below (inr h) = absurd (omega arith)
 
 counted : (m : Mill) (before : List Point) (limit last_bares : ℕ) (was is : Tally) (new : Counts) (s : Searched)
-    → IsInLimits m → limit ≤ most_limit → s.opened ≡ new.opened → s.bare ≡ new.bare
-    → OpensFew m (start limit) new → HaveCauses 0 was s.bare is → new.bare ≤ new.opened
+    → IsInLimits m → IsGoodHead m before → limit ≤ most_limit → s.opened ≡ new.opened → s.bare ≡ new.bare
+    → OpensFew m (questions_left m before) (start limit) new → HaveCauses 0 was s.bare is → new.bare ≤ new.opened
     → CountsNodes (nodes_of (added_to before s.points) + ending_nodes s.ending) (start limit) new
     → CountsBares (bares_of (added_to before s.points) + last_bares) (start limit) new was is
     → AreWithin limit (added_to before s.points) × (ending_nodes s.ending ≤ limit)
     → IsCounted m before limit last_bares was is s
-counted m before limit last_bares was is new s limits fits opened bare opens causes among nodes bares within =
-    let end : new.opened < last_count = below_end m limit new limits fits opens in
+counted m before limit last_bares was is new s limits good fits opened bare opens causes among nodes bares within =
+    let end : new.opened < last_count = below_end m before limit new limits good fits opens in
     record {
       within = within.0;
       last_within = within.1;
@@ -135,13 +137,13 @@ told_plainly m plain = record {
 few_nodes : (m : Mill) (limit : ℕ) → limit + 2 ≤ most_nodes m → limit < (length m.orders + 2) * most_nodes m
 few_nodes m limit few = omega (arith, mul-le 1 (most_nodes m) (length m.orders + 2) (most_nodes m) (omega arith) (omega arith))
 
-pub found : (m : Mill) (before : List Point) (limit : ℕ) (was is : Tally) (new : Counts) (swept : Swept) → IsInLimits m → limit ≤ most_limit
+pub found : (m : Mill) (before : List Point) (limit : ℕ) (was is : Tally) (new : Counts) (swept : Swept) → IsInLimits m → IsGoodHead m before → limit ≤ most_limit
     → IsSwept (Some first_fit) m before (start limit) new was is swept
     → CountsNodes (made_nodes before swept) (start limit) new → HasTreesWithin limit before swept
     → (IsToldPlainly (Some first_fit) m → before ≡ [] → IsSweptAtOnce (start limit) new swept)
-    → OpensFew m (start limit) new → HaveCauses 0 was new.bare is → new.bare ≤ new.opened
+    → OpensFew m (questions_left m before) (start limit) new → HaveCauses 0 was new.bare is → new.bare ≤ new.opened
     → IsSearched m before limit was is (status_of (searched swept new.opened new.bare)) (searched swept new.opened new.bare)
-found m before limit was is new (Complete front) limits fits (whole, bares) nodes within plain opens causes among =
+found m before limit was is new (Complete front) limits given fits (whole, bares) nodes within plain opens causes among =
     let s : Searched = searched (Complete front) new.opened new.bare in
     let good : IsGood m (certificate_of s) = record { ended = whole.good; marks = free_marks (finished_trees (certificate_of s)) } in
     let shows : ShowsFront m (certificate_of s) = record { good = good; whole = tt; some = whole.some } in
@@ -156,10 +158,10 @@ found m before limit was is new (Complete front) limits fits (whole, bares) node
         last = front.last;
         ending = refl;
         made = whole.rest;
-        counts = counted m before limit (bare_marks front.last.marks) was is new s limits fits refl refl opens causes among nodes bares within;
+        counts = counted m before limit (bare_marks front.last.marks) was is new s limits given fits refl refl opens causes among nodes bares within;
       },
     )
-found m before limit was is new (NoPlan last) limits fits (nothing, bares) nodes within plain opens causes among =
+found m before limit was is new (NoPlan last) limits given fits (nothing, bares) nodes within plain opens causes among =
     let s : Searched = searched (NoPlan last) new.opened new.bare in
     let good : IsGood m (certificate_of s) = record { ended = nothing.good; marks = free_marks (finished_trees (certificate_of s)) } in
     let shows : ShowsNoPlan m (certificate_of s) = record { good = good; whole = tt; none = refl } in
@@ -174,13 +176,13 @@ found m before limit was is new (NoPlan last) limits fits (nothing, bares) nodes
         last = last;
         ending = refl;
         made = nothing.rest;
-        counts = counted m before limit (bare_marks last.marks) was is new s limits fits refl refl opens causes among
+        counts = counted m before limit (bare_marks last.marks) was is new s limits given fits refl refl opens causes among
             (subst (λ (x : ℕ). CountsNodes x (start limit) new) (none_before before nodes_of (length last.steps) nothing.none refl) nodes)
             (subst (λ (x : ℕ). CountsBares x (start limit) new was is) (none_before before bares_of (bare_marks last.marks) nothing.none refl) bares)
             (none_within before limit nothing.none, within);
       },
     ))
-found m before limit was is new (Budget points rest) limits fits (some, off, bares) nodes within plain opens causes among =
+found m before limit was is new (Budget points rest) limits given fits (some, off, bares) nodes within plain opens causes among =
     let s : Searched = searched (Budget points rest) new.opened new.bare in
     let good : IsGood m (certificate_of s) = record {
       ended = record { head = off.head; rest = off.cut.cut.open_tree };
@@ -200,27 +202,27 @@ found m before limit was is new (Budget points rest) limits fits (some, off, bar
         cut = off.cut;
         below = few_nodes m limit off.cut.few;
         unplain = λ empty is_plain. (plain (told_plainly m is_plain) empty).answer;
-        counts = counted m before limit some was is new s limits fits refl refl opens causes among nodes bares within;
+        counts = counted m before limit some was is new s limits given fits refl refl opens causes among nodes bares within;
       },
     ))
 
 -- the same from the calls of a search
 pub found_from : (m : Mill) (before : List Point) (limit : ℕ) (was is : Tally) (old new : Counts) (swept : Swept) (opened bare : ℕ)
-    → old ≡ start limit → opened ≡ new.opened → bare ≡ new.bare → IsInLimits m → limit ≤ most_limit
+    → old ≡ start limit → opened ≡ new.opened → bare ≡ new.bare → IsInLimits m → IsGoodHead m before → limit ≤ most_limit
     → IsSwept (Some first_fit) m before old new was is swept
     → CountsNodes (made_nodes before swept) old new → HasTreesWithin old.limit before swept
     → (IsToldPlainly (Some first_fit) m → before ≡ [] → IsSweptAtOnce old new swept)
-    → OpensFew m old new → HaveCauses old.bare was new.bare is → new.bare ≤ new.opened
+    → OpensFew m (questions_left m before) old new → HaveCauses old.bare was new.bare is → new.bare ≤ new.opened
     → IsSearched m before limit was is (status_of (searched swept opened bare)) (searched swept opened bare)
-found_from m before limit was is old new swept opened bare eo e1 e2 limits fits given nodes within plain opens causes among =
+found_from m before limit was is old new swept opened bare eo e1 e2 limits good fits swept_is nodes within plain opens causes among =
     subst (λ (x : ℕ). IsSearched m before limit was is (status_of (searched swept x bare)) (searched swept x bare)) (sym e1)
     (subst (λ (y : ℕ). IsSearched m before limit was is (status_of (searched swept new.opened y)) (searched swept new.opened y)) (sym e2)
-    (found m before limit was is new swept limits fits
-    (subst (λ (n : Counts). IsSwept (Some first_fit) m before n new was is swept) eo given)
+    (found m before limit was is new swept limits good fits
+    (subst (λ (n : Counts). IsSwept (Some first_fit) m before n new was is swept) eo swept_is)
     (subst (λ (n : Counts). CountsNodes (made_nodes before swept) n new) eo nodes)
     (subst (λ (n : Counts). HasTreesWithin n.limit before swept) eo within)
     (λ told empty. subst (λ (n : Counts). IsSweptAtOnce n new swept) eo (plain told empty))
-    (subst (λ (n : Counts). OpensFew m n new) eo opens)
+    (subst (λ (n : Counts). OpensFew m (questions_left m before) n new) eo opens)
     (subst (λ (n : Counts). HaveCauses n.bare was new.bare is) eo causes) among))
 
 -- a made mill has a front

@@ -14,7 +14,7 @@ use Rattle.slab_relax.specs.Tallies.{HaveCauses}
 use Rattle.slab_tree.specs.Marking.{bare_marks}
 use Rattle.slab_sweep.specs.Openings.{opening_after, limits_of_rest}
 use Rattle.slab_sweep.specs.Made.{IsMade, IsCut, GoesOnFrom, nodes_of, bares_of}
-use Rattle.slab_sweep.specs.Counting.{most_questions}
+use Rattle.slab_sweep.specs.Counting.{questions_left}
 use Rattle.slab_sweep.specs.Swept.{AreWithin, added_to}
 use Rattle.slab_start.specs.FirstFit.{first_fit}
 use Rattle.slab_start.specs.Plain.{IsPlainMill}
@@ -61,12 +61,12 @@ ending_nodes (Whole last) = length last.steps
 ending_nodes (Cut rest) = length rest
 
 -- The nodes that were opened and the bare splits among them. The trees that the search made have no more nodes than were
--- opened, and no more bare splits than were counted, so many of them in the last tree.
+-- opened, and no more bare splits than were counted, so many of them in the last tree. The points before open none.
 pub record IsCounted (m : Mill) (before : List Point) (limit last_bares : ℕ) (was is : Tally) (s : Searched) : Type 0 where
   -- no tree that the search made has more nodes than the limit, and all of them together have at most the node bound
   pub within : AreWithin limit (added_to before s.points)
   pub last_within : ending_nodes s.ending ≤ limit
-  pub limited : s.opened ≤ most_questions m * limit
+  pub limited : s.opened ≤ questions_left m before * limit
   pub bounded : s.opened ≤ node_bound m
   pub nodes : nodes_of (added_to before s.points) + ending_nodes s.ending ≤ s.opened
   pub bares : bares_of (added_to before s.points) + last_bares ≤ s.bare

@@ -12,18 +12,18 @@ use Rattle.slab_relax.proofs.Counting.{causes_trans}
 use Rattle.slab_sweep.specs.Counting.{most_questions, OpensFew, OpensOneTree, CountsNodes, CountsBares}
 use Rattle.slab_sweep.specs.Progress.{HasRoomFor}
 
-pub room_at_first : (m : Mill) (questions : ℕ) (n : Counts) → questions ≤ most_questions m → HasRoomFor m questions n n
+pub room_at_first : (m : Mill) (questions : ℕ) (n : Counts) → questions ≤ most_questions m → HasRoomFor m questions questions n n
 room_at_first m questions n few = record {
   limit = omega arith;
   rises = omega arith;
   bare_rises = omega arith;
-  limited = omega (arith, mul-le questions n.limit (most_questions m) n.limit few (omega arith));
+  limited = omega arith;
   bounded = omega (arith, mul-le questions (most_nodes m) (most_questions m) (most_nodes m) few (omega arith));
 }
 
 -- one question takes its room
-pub room_after : (m : Mill) (questions left : ℕ) (old now new : Counts) → HasRoomFor m questions old now → OpensOneTree m now new → left + 1 ≤ questions → HasRoomFor m left old new
-room_after m questions left old now new room opens fewer = record {
+pub room_after : (m : Mill) (all questions left : ℕ) (old now new : Counts) → HasRoomFor m all questions old now → OpensOneTree m now new → left + 1 ≤ questions → HasRoomFor m all left old new
+room_after m all questions left old now new room opens fewer = record {
   limit = omega (arith, room.limit, opens.limit);
   rises = omega arith;
   bare_rises = omega arith;
@@ -31,8 +31,8 @@ room_after m questions left old now new room opens fewer = record {
   bounded = omega (arith, room.bounded, opens.few, mul-le (left + 1) (most_nodes m) questions (most_nodes m) fewer (omega arith));
 }
 
-pub opens_few : (m : Mill) (questions : ℕ) (old new : Counts) → HasRoomFor m questions old new → OpensFew m old new
-opens_few m questions old new room = record {
+pub opens_few : (m : Mill) (all questions : ℕ) (old new : Counts) → HasRoomFor m all questions old new → OpensFew m all old new
+opens_few m all questions old new room = record {
   limit = room.limit;
   rises = room.rises;
   bare_rises = room.bare_rises;

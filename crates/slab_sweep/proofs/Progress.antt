@@ -15,11 +15,11 @@ use Rattle.slab_sweep.specs.declared.swept.Swept.{Swept}
 use Rattle.slab_sweep.specs.declared.swept.Swept.TheVariants.{Complete, NoPlan, Budget}
 use Rattle.slab_sweep.specs.Openings.{Telling, opening_after}
 use Rattle.slab_sweep.specs.Made.{IsFound, IsNothing, IsCut, nodes_of, bares_of}
-use Rattle.slab_sweep.specs.Counting.{most_questions, OpensFew, OpensOneTree, CountsNodes, CountsBares}
+use Rattle.slab_sweep.specs.Counting.{most_questions, questions_after, questions_left, OpensFew, OpensOneTree, CountsNodes, CountsBares}
 use Rattle.slab_sweep.specs.Questions.{AreCounted}
 use Rattle.slab_sweep.specs.Placing.{placed}
 use Rattle.slab_sweep.specs.Swept.{ended_with, AreWithin, HasTreesWithin, IsSwept, IsAnswer, IsToldPlainly, added_to, made_nodes}
-use Rattle.slab_sweep.specs.Progress.{IsUnderWay, HasRoomFor, StandsPlainly, questions_after, questions_left}
+use Rattle.slab_sweep.specs.Progress.{IsUnderWay, HasRoomFor, StandsPlainly}
 use Rattle.slab_sweep.proofs.Heads.{few_last, few_new, found_falls, good_placed, last_placed}
 use Rattle.slab_sweep.proofs.Kept.{goes_on_at_first, none_before, placed_on, IsPlacedOn}
 use Rattle.slab_sweep.proofs.Counting.{room_at_first, room_after, opens_few, nodes_more, bares_more}
@@ -33,6 +33,10 @@ few_at_first m points good (Some last) e = omega (arith, few_last m None points 
     never : (s : Sums) → None ≡ Some s → ⊥
     never s is = cc
 
+-- a sweep that goes on from a good head asks no more questions than one from the start
+pub few_left : (m : Mill) (points : List Point) → IsGoodHead m points → questions_left m points ≤ most_questions m
+few_left m points good = few_at_first m points good (last_sums None points) refl
+
 pub at_first : (told : Telling) (m : Mill) (head : List Point) (n : Counts) (t : Tally) → IsGoodHead m head → IsUnderWay told m head head n n t t
 at_first told m head n t good =
     let none : added_to head head ≡ [] = drop-length head in
@@ -42,7 +46,7 @@ at_first told m head n t good =
       nodes = inl (omega (arith, ap nodes_of none));
       within = subst (λ (points : List Point). AreWithin n.limit points) (sym none) tt;
       bares = record { counted = inl (omega (arith, ap bares_of none)); causes = inl (omega (arith, ap bares_of none)) };
-      room = room_at_first m (questions_left m head) n (few_at_first m head good (last_sums None head) refl);
+      room = room_at_first m (questions_left m head) n (few_left m head good);
       causes = causes_same n.bare n.bare t t refl (no_less_same t);
       counters = no_less_same t;
       plainly = λ plain empty. subst (λ (points : List Point). StandsPlainly m plain.plan points n n) (sym empty) (omega arith);
@@ -67,15 +71,15 @@ fewer_left told m points point found = subst (λ (last : Option Sums). questions
     by (Some last) here = omega (arith, found_falls told m (Some last) point here)
 
 -- what holds so far holds where memory is wanting
-pub few_so_far : {told : Telling} {m : Mill} {head points : List Point} {old now : Counts} {was is : Tally} → IsUnderWay told m head points old now was is → OpensFew m old now
-few_so_far {m} {points} {old} {now} way = opens_few m (questions_left m points) old now way.room
+pub few_so_far : {told : Telling} {m : Mill} {head points : List Point} {old now : Counts} {was is : Tally} → IsUnderWay told m head points old now was is → OpensFew m (questions_left m head) old now
+few_so_far {m} {head} {points} {old} {now} way = opens_few m (questions_left m head) (questions_left m points) old now way.room
 
 -- what a question opened leaves room for fewer
-room_for : {told : Telling} {m : Mill} {head points : List Point} {old now new : Counts} {was is : Tally} → IsUnderWay told m head points old now was is → (left : ℕ) → OpensOneTree m now new → left + 1 ≤ questions_left m points → HasRoomFor m left old new
-room_for {m} {points} {old} {now} {new} way left opens fewer = room_after m (questions_left m points) left old now new way.room opens fewer
+room_for : {told : Telling} {m : Mill} {head points : List Point} {old now new : Counts} {was is : Tally} → IsUnderWay told m head points old now was is → (left : ℕ) → OpensOneTree m now new → left + 1 ≤ questions_left m points → HasRoomFor m (questions_left m head) left old new
+room_for {m} {head} {points} {old} {now} {new} way left opens fewer = room_after m (questions_left m head) (questions_left m points) left old now new way.room opens fewer
 
-pub few_after : {told : Telling} {m : Mill} {head points : List Point} {old now new : Counts} {was is : Tally} → IsUnderWay told m head points old now was is → OpensOneTree m now new → OpensFew m old new
-few_after {m} {points} {old} {new} way opens = opens_few m 0 old new (room_for way 0 opens (some_left m points))
+pub few_after : {told : Telling} {m : Mill} {head points : List Point} {old now new : Counts} {was is : Tally} → IsUnderWay told m head points old now was is → OpensOneTree m now new → OpensFew m (questions_left m head) old new
+few_after {m} {head} {points} {old} {new} way opens = opens_few m (questions_left m head) 0 old new (room_for way 0 opens (some_left m points))
 
 pub have_causes : {told : Telling} {m : Mill} {head points : List Point} {old now : Counts} {was half is : Tally} → IsUnderWay told m head points old now was half → (bare : ℕ) → HaveCauses now.bare half bare is → AreNoLess half is → HaveCauses old.bare was bare is
 have_causes {old} {now} {was} {half} {is} way bare causes later = causes_trans old.bare now.bare bare was half is later way.causes causes

@@ -1,8 +1,10 @@
 -- What a sweep counts.
-use Rattle.std.specs.Prelude.{◌≡◌, ℕ, ◌+◌, ◌*◌, ◌≤◌, ◌⊎◌, length}
+use Rattle.std.specs.Prelude.{◌≡◌, ℕ, ◌+◌, ◌*◌, ◌≤◌, ◌⊎◌, List, length, Option, Some, None}
 use Rattle.slab_counter.specs.Counter.{last_count}
+use Rattle.mill_model.specs.declared.sums.Sums.{Sums}
 use Rattle.mill_model.specs.Mill.{Mill}
 use Rattle.mill_model.specs.Trees.{most_nodes, node_bound}
+use Rattle.mill_model.specs.Fronts.{Point, last_sums}
 use Rattle.slab_relax.specs.Tallies.{HaveCauses}
 use Rattle.slab_relax.specs.declared.tally.Tally.{Tally}
 use Rattle.slab_tree.specs.Counts.{Counts}
@@ -11,12 +13,22 @@ use Rattle.slab_tree.specs.Counts.{Counts}
 abbrev pub most_questions : Mill → ℕ
 most_questions m = length m.orders + 2
 
--- no count falls, and the nodes that were opened are at most what the questions may open, each within the limit, and the node bound
-pub record OpensFew (m : Mill) (old new : Counts) : Type 0 where
+-- how many it asks at most after a point: for each count limit from one less than the point's count to -1
+abbrev pub questions_after : Mill → Option Sums → ℕ
+questions_after m None = most_questions m
+questions_after m (Some last) = last.count + 1
+
+-- how many questions a sweep that goes on from these points asks at most
+abbrev pub questions_left : Mill → List Point → ℕ
+questions_left m points = questions_after m (last_sums None points)
+
+-- No count falls, and the nodes that were opened are at most what so many questions may open, each within the limit, and the
+-- node bound.
+pub record OpensFew (m : Mill) (questions : ℕ) (old new : Counts) : Type 0 where
   pub limit : new.limit ≡ old.limit
   pub rises : old.opened ≤ new.opened
   pub bare_rises : old.bare ≤ new.bare
-  pub limited : new.opened ≤ old.opened + most_questions m * old.limit
+  pub limited : new.opened ≤ old.opened + questions * old.limit
   pub bounded : new.opened ≤ old.opened + node_bound m
 
 -- one question opens no more nodes than the limit, and no more than a tree has at most

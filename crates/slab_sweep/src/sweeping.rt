@@ -3,7 +3,7 @@
 ghost use Rattle.std.specs.Prelude.{◌≡◌, [], IfOk};
 ghost use Rattle.mill_model.specs.Fronts.{IsGoodHead};
 ghost use Rattle.slab_relax.specs.Tallies.{AreNoLess, HaveCauses};
-ghost use Rattle.slab_sweep.specs.Counting.{OpensFew, CountsNodes};
+ghost use Rattle.slab_sweep.specs.Counting.{OpensFew, CountsNodes, questions_left};
 ghost use Rattle.slab_sweep.specs.Swept.{HasTreesWithin, IsSwept, IsSweptAtOnce, IsToldPlainly, made_nodes, ended_with};
 
 use crate::points::{count_limit, place};
@@ -42,7 +42,7 @@ pub fn sweep<T: Starter>(
         → IfOk result (IsSweptAtOnce nodes.old nodes.new) }
 
     // What the counts do, also where memory is wanting.
-    ensures opens { OpensFew mill.now nodes.old nodes.new }
+    ensures opens { OpensFew mill.now (questions_left mill.now head) nodes.old nodes.new }
     ensures causes { HaveCauses nodes.old.bare tally.old nodes.new.bare tally.new }
     ensures counters { AreNoLess tally.old tally.new }
     ensures tells { T.told starter.new ≡ T.told starter.old }

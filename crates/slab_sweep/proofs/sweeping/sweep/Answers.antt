@@ -6,8 +6,8 @@ use Rattle.slab_tree.specs.Searches.{KeepsBest}
 use Rattle.slab_sweep.specs.declared.question.Answer.{Answer}
 use Rattle.slab_sweep.specs.Openings.{Telling, count_after, opening_after}
 use Rattle.slab_sweep.specs.Made.{IsFound, IsNothing, IsCut}
-use Rattle.slab_sweep.specs.Counting.{CountsNodes}
-use Rattle.slab_sweep.specs.Progress.{IsUnderWay, questions_left}
+use Rattle.slab_sweep.specs.Counting.{CountsNodes, questions_left}
+use Rattle.slab_sweep.specs.Progress.{IsUnderWay}
 use Rattle.slab_sweep.specs.declared.swept.Swept.{Swept}
 use Rattle.slab_sweep.specs.Swept.{HasTreesWithin, IsSwept, IsAnswer, made_nodes}
 use Rattle.slab_sweep.specs.declared.swept.Swept.TheVariants.{Budget}

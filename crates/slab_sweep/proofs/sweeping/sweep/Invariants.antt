@@ -1,5 +1,6 @@
 use Rattle.std.proofs.Common.{◌≡◌}
-use Rattle.slab_sweep.specs.Progress.{IsUnderWay, questions_left}
+use Rattle.slab_sweep.specs.Counting.{questions_left}
+use Rattle.slab_sweep.specs.Progress.{IsUnderWay}
 use Rattle.slab_sweep.proofs.sweeping.sweep.Given as goal
 
 abbrev pub invariant-questions : goal.invariant-questions
