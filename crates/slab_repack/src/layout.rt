@@ -1,6 +1,8 @@
 //! A plan at work: its slabs, and where the orders lie.
 
 use crate::facts::{Fact, Facts, bit};
+use crate::items::Item;
+use crate::packing::Packed;
 use crate::slab::Slab;
 use mill_model::{Kind, Plan};
 use std::alloc::{AllocError, Global};
@@ -17,6 +19,8 @@ pub(crate) struct Layout {
     pub loss: u64,
     // How many of the slabs are new.
     pub news: usize,
+    // Where the slabs go when some are released.
+    moved: Vec<usize>,
 }
 
 impl Layout {
@@ -28,6 +32,7 @@ impl Layout {
             taken: 0,
             loss: 0,
             news: 0,
+            moved: Vec::with_capacity(alloc, orders)?,
         })
     }
 
@@ -202,6 +207,53 @@ impl Layout {
             self.loss = self.loss.saturating_add(u64::from(slab.loss(facts)));
             if slab.surplus.is_none() {
                 self.news = self.news.saturating_add(1);
+            }
+        }
+    }
+
+    // Takes slabs away, with what lies on them. The others move together.
+    pub(crate) fn drop_slabs(&mut self, released: &[usize]) {
+        self.moved.clear();
+        self.taken = 0;
+        let mut kept = 0;
+        for slab in 0..self.slabs.len() {
+            if released.contains(&slab) {
+                let _ = self.moved.push(NOWHERE);
+            } else {
+                self.move_slab(slab, kept);
+                kept += 1;
+            }
+        }
+        self.slabs.truncate(kept);
+        for place in &mut self.place {
+            *place = self.moved.get(*place).copied().unwrap_or(NOWHERE);
+        }
+    }
+
+    fn move_slab(&mut self, from: usize, to: usize) {
+        let _ = self.moved.push(to);
+        if let Some(slab) = self.slabs.get(from).copied() {
+            if let Some(surplus) = slab.surplus {
+                self.taken |= bit(surplus);
+            }
+            if let Some(there) = self.slabs.get_mut(to) {
+                *there = slab;
+            }
+        }
+    }
+
+    // One slab more, with the items whose bits are set.
+    pub(crate) fn add_slab(&mut self, facts: &Facts, packed: &Packed, items: &[Item]) {
+        let slab = match packed.surplus {
+            Some(surplus) => self.open_old(facts, surplus),
+            None => Some(Slab::new(facts)),
+        };
+        let Some(index) = slab.and_then(|slab| self.push(slab)) else {
+            return;
+        };
+        for item in items {
+            if packed.items & item.bit != 0 {
+                self.put(facts, item.order, index);
             }
         }
     }

@@ -1,13 +1,19 @@
+//! The search.
+
 ghost use Rattle.std.specs.Prelude.{◌≡◌, IfOk, IfSome};
 ghost use Rattle.slab_repack.specs.FoundPlans.{IsFoundPlan};
 
 use crate::facts::Facts;
 use crate::judging::judged;
 use crate::layout::Layout;
+use crate::packing::Packing;
 use crate::random::Random;
+use crate::release::Release;
 use loss_table::LossTable;
 use mill_model::{Kind, Limits, Mill, Plan};
 use std::alloc::{AllocError, Global};
+
+mod renewal;
 
 /// A search for plans by large neighbourhoods: it releases a few slabs of a plan and packs their orders anew, as well as it can.
 /// Its numbers are drawn from a constant seed and it counts its steps, so a run is a function of the calls.
@@ -16,8 +22,20 @@ pub struct Repack {
     facts: Facts,
     layout: Layout,
     best: Layout,
+    release: Release,
+    packing: Packing,
     random: Random,
     steps: u64,
+}
+
+// What a search is after.
+#[derive(Clone, Copy, Drop)]
+struct Aim {
+    // At most so many new slabs, and so much loss.
+    count: usize,
+    loss: u64,
+    // So little loss is enough.
+    enough: u64,
 }
 
 impl Repack {
@@ -29,6 +47,8 @@ impl Repack {
             facts: Facts::new(alloc, mill, table)?,
             layout: Layout::new(alloc, orders)?,
             best: Layout::new(alloc, orders)?,
+            release: Release::new(alloc)?,
+            packing: Packing::new(alloc)?,
             random: Random::new(),
             steps: 0,
         })
@@ -44,7 +64,7 @@ impl Repack {
         self.layout.load(&self.facts, plan);
     }
 
-    /// Starts from no plan: all orders lie nowhere. What a search finds lying nowhere it places by best fit.
+    /// Starts from no plan: all orders lie nowhere. What a search finds lying nowhere it places where it costs least.
     pub fn clear(&mut self) {
         self.layout.clear();
     }
@@ -67,11 +87,60 @@ impl Repack {
     ) -> Result<Option<Plan>, AllocError>
         ensures found { IfOk result (λ found. IfSome found (IsFoundPlan mill.now limits)) }
     {
+        let Some(aim) = aim_of(limits, enough) else {
+            return Ok(None);
+        };
         if !self.layout.complete(&self.facts) {
             return Ok(None);
         }
         self.layout.sum_up(&self.facts);
-        let plan = self.layout.plan(alloc, &self.facts)?;
+        if !self.improve(aim, work) {
+            return Ok(None);
+        }
+        let plan = self.best.plan(alloc, &self.facts)?;
         Ok(judged(mill, plan, limits))
+    }
+
+    // Renews parts of the layout for so many steps. It answers whether there is a best plan.
+    fn improve(&mut self, aim: Aim, work: u64) -> bool {
+        let mut aim = aim;
+        let mut found = self.note(&mut aim);
+        let mut done: u64 = 0;
+        for _ in 0..work {
+            if done >= work || (found && self.best.loss <= aim.enough) {
+                break;
+            }
+            done = done.saturating_add(self.renew(aim.count));
+            found |= self.note(&mut aim);
+        }
+        self.steps = self.steps.saturating_add(done);
+        found
+    }
+
+    // Keeps the layout as the best plan, where it is within the limits, and asks for less from then on.
+    fn note(&mut self, aim: &mut Aim) -> bool {
+        if self.layout.news > aim.count || self.layout.loss > aim.loss {
+            return false;
+        }
+        aim.loss = self.layout.loss.saturating_sub(1);
+        self.best.copy_from(&self.layout);
+        true
+    }
+}
+
+// What a search is after, unless a limit is below 0.
+fn aim_of(limits: Limits, enough: u32) -> Option<Aim> {
+    Some(Aim {
+        count: most_of(limits.count)?.min(u64::from(u32::MAX)) as usize,
+        loss: most_of(limits.loss)?,
+        enough: u64::from(enough),
+    })
+}
+
+// A limit as a number, unless it is below 0.
+fn most_of(limit: Option<i64>) -> Option<u64> {
+    match limit {
+        Some(limit) => u64::try_from(limit).ok(),
+        None => Some(u64::MAX),
     }
 }

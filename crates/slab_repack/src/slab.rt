@@ -9,6 +9,8 @@ pub(crate) struct Slab {
     pub surplus: Option<usize>,
     pub room: u32,
     pub load: u32,
+    // How many orders lie on it.
+    pub orders: usize,
     // The different colours, and 0 where there is room for one more.
     pub colours: [u16; 3],
 }
@@ -20,6 +22,7 @@ impl Slab {
             surplus: None,
             room: facts.greatest,
             load: 0,
+            orders: 0,
             colours: [0; 3],
         }
     }
@@ -30,6 +33,7 @@ impl Slab {
             surplus: Some(surplus),
             room: facts.size(surplus),
             load: 0,
+            orders: 0,
             colours: [0; 3],
         }
     }
@@ -60,6 +64,7 @@ impl Slab {
     // An order joins.
     pub(crate) fn put(&mut self, order: &Fact) {
         self.load = self.load.saturating_add(order.weight);
+        self.orders = self.orders.saturating_add(1);
         for known in &mut self.colours {
             if *known == order.colour {
                 return;
