@@ -6,6 +6,7 @@ ghost use Rattle.std.specs.Prelude.{◌≡◌, ◌≤◌, [], length};
 ghost use Rattle.mill_model.specs.Mill.{IsBetween};
 
 mod allowing;
+mod certificates;
 mod deciding;
 mod following;
 mod leaves;
@@ -23,7 +24,7 @@ mod words;
 use crate::mills::{read_mill, read_mill_with_yard};
 use crate::told::Told;
 use crate::words::{
-    MillPart, MillWork, Part, ReplayWork, Work, read_mill_work, read_replay_work, read_work,
+    MillPart, MillWork, Part, ReplayPart, ReplayWork, Work, read_mill_work, read_replay_work, read_work,
 };
 use mill_model::Mill;
 use std::env::{self, Env};
@@ -59,7 +60,7 @@ fn run<R: Env + Files + AllocGlobal + Print>(rt: &R) -> io::Result<bool> {
     println!(rt;
         "       bench_parts price|price_none|pair|follows|allows|pool|leaf|leaf_none FILE TIMES SEED"
     )?;
-    println!(rt; "       bench_parts replay|redecide CALLS ORDERS YARD COLOURS TIMES")?;
+    println!(rt; "       bench_parts replay|redecide|retest CALLS ORDERS YARD COLOURS TIMES")?;
     Ok(false)
 }
 
@@ -175,8 +176,26 @@ fn run_replay<R: Files + AllocGlobal + Print>(rt: &R, work: &ReplayWork<'_>) -> 
         println!(rt; "no mill")?;
         return Ok(false);
     };
+    if work.part == ReplayPart::Leaves {
+        run_certificate(rt, &mill, work)?;
+        return Ok(true);
+    }
     let mut told = Told::read(rt.alloc(), &fs::read_to_string(rt, work.calls)?)?;
     let done = replaying::replay_calls(rt.alloc(), &mill, &mut told, work)?;
     println!(rt; "same {} other {}", done.same, done.other)?;
     Ok(true)
+}
+
+// Tests the leaves of a certificate.
+fn run_certificate<R: Files + AllocGlobal + Print>(
+    rt: &R,
+    mill: &Mill,
+    work: &ReplayWork<'_>,
+) -> io::Result<()> {
+    let certificate = fs::read(rt, work.calls)?;
+    let done = certificates::test_leaves(rt.alloc(), mill, &certificate, work.times)?;
+    println!(rt;
+        "refute {} column {} other {}",
+        done.refute, done.column, done.other
+    )
 }

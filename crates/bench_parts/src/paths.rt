@@ -15,7 +15,7 @@ use std::alloc::{AllocError, Global};
 const PAIRS: u16 = 20;
 
 /// The limits leave so much room for the worth of the orders that each leaf comes to the search for a column.
-const LIMITS: Limits = Limits {
+pub(crate) const LIMITS: Limits = Limits {
     loss: Some(-1000000),
     count: Some(0),
 };
@@ -29,7 +29,16 @@ pub struct Said {
 }
 
 impl Said {
-    fn note(&mut self, answer: Result<(), Bad>) {
+    /// Nothing is said yet.
+    pub(crate) fn new() -> Said {
+        Said {
+            refute: 0,
+            column: 0,
+            other: 0,
+        }
+    }
+
+    pub(crate) fn note(&mut self, answer: Result<(), Bad>) {
         match answer {
             Ok(()) => self.refute = raised(self.refute),
             Err(Bad::Column) => self.column = raised(self.column),
@@ -46,11 +55,7 @@ pub fn test_often(alloc: Global, mill: &Mill, work: &MillWork<'_>) -> Result<Sai
     let mut random = Random {
         state: u64::from(work.seed),
     };
-    let mut said = Said {
-        refute: 0,
-        column: 0,
-        other: 0,
-    };
+    let mut said = Said::new();
     let orders = mill.orders().len() as u16;
     let mut path = Path::new(alloc, mill)?;
     'rounds: for _ in 0..work.times {

@@ -123,6 +123,8 @@ pub enum ReplayPart {
     Price,
     /// The decisions alone.
     Decide,
+    /// The test of the leaves of a certificate, which takes the place of the calls.
+    Leaves,
 }
 
 /// A file that tells calls, and the files of the mill on which they are made.
@@ -163,6 +165,7 @@ fn replay_part_of(word: &str) -> Option<ReplayPart> {
     match word {
         "replay" => Some(ReplayPart::Price),
         "redecide" => Some(ReplayPart::Decide),
+        "retest" => Some(ReplayPart::Leaves),
         _ => None,
     }
 }

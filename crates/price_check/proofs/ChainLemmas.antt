@@ -1,5 +1,5 @@
 -- Numbers that go by keys.
-use Rattle.std.proofs.Common.{◌≡◌, ℕ, ◌+◌, ◌<◌, ◌≤◌, List, length, get_or, sym, subst, ap, ◌∙◌, arith}
+use Rattle.std.proofs.Common.{◌≡◌, ℕ, ◌+◌, ◌<◌, List, get_or, sym, subst, ◌∙◌, arith}
 use Rattle.price_check.specs.Chains.{AreChains, IsNextOf}
 
 -- the same keys, told otherwise

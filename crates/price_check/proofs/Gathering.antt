@@ -1,12 +1,12 @@
 -- The groups of some colours, gathered colour by colour.
-use Rattle.std.proofs.Common.{◌||◌, ◌≡◌, ◌⊎◌, inl, inr, ℕ, ◌+◌, ◌<◌, ◌≤◌, true, false, cond, eqb, List, [], ◌∷◌, ◌++◌, length, get_or, take, refl, sym, subst, ap, ◌∙◌, arith}
+use Rattle.std.proofs.Common.{◌||◌, ◌≡◌, ◌⊎◌, inl, inr, ℕ, ◌+◌, ◌<◌, ◌≤◌, true, false, eqb, List, [], ◌∷◌, ◌++◌, length, get_or, take, sym, subst, ap, ◌∙◌, arith}
 use Rattle.std.proofs.lemmas.Bool.{both_ways, cases_eq, cases_lt, cond-false, cond-true, eq-eqb, eqb-true, ne_eqb, or_cases, or_left, or_right}
 use Rattle.std.proofs.lemmas.List.{take_more}
 use Rattle.mill_model.specs.Columns.{has}
 use Rattle.mill_model.proofs.Judging.{has-append}
 use Rattle.pricing_laws.specs.Colours.{AreGroupsOf, IsGroupOf, colour_at}
 use Rattle.pricing_laws.specs.Groups.{head_of}
-use Rattle.pricing_laws.specs.Parts.{AreDistinct, left_of}
+use Rattle.pricing_laws.specs.Parts.{AreDistinct}
 use Rattle.pricing_laws.proofs.Parts.{distinct_below, distinct_take, has_at, has_later, has_left_of, has_none, has_not, left_push, length-left_of}
 use Rattle.price_check.specs.declared.search.Search.{Search}
 use Rattle.price_check.specs.Chains.{IsNextOf}

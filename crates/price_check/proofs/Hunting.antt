@@ -1,5 +1,5 @@
 -- The facts of a walk, by what it goes by.
-use Rattle.std.proofs.Common.{◌≡◌, ℕ, ◌+◌, ◌-◌, ◌*◌, ◌/◌, ◌^◌, ◌<◌, ◌≤◌, pos, ◌+ℤ◌, ◌≤ℤ◌, ℤ, true, List, [], ◌∷◌, ◌++◌, length, get_or, refl, sym, subst, ap, ◌∙◌, arith, append-nil}
+use Rattle.std.proofs.Common.{◌≡◌, ℕ, ◌+◌, ◌*◌, ◌/◌, ◌^◌, ◌<◌, ◌≤◌, pos, ◌+ℤ◌, ℤ, true, List, [], ◌∷◌, ◌++◌, length, get_or, refl, subst, ap, arith, append-nil}
 use Rattle.std.specs.Prelude.{◌-ℤ◌, unsigned_abs}
 use Rattle.std.proofs.lemmas.Nat.{mul-le}
 use Rattle.std.proofs.lemmas.Int.{ints}
@@ -8,7 +8,7 @@ use Rattle.pricing_laws.specs.Gains.{gains_of}
 use Rattle.pricing_laws.specs.Groups.{IsApart, members}
 use Rattle.pricing_laws.specs.Groupings.{weight_at, gain_at}
 use Rattle.pricing_laws.specs.Parts.{left_of}
-use Rattle.pricing_laws.specs.Problems.{Problem, ExceedAtMost}
+use Rattle.pricing_laws.specs.Problems.{ExceedAtMost}
 use Rattle.pricing_laws.proofs.Choices.{choice_apart, choice_bounded, choice_heavy, chosen_colours, chosen_gain, chosen_inside, chosen_later, chosen_small, chosen_taken, chosen_weight, queue_inside}
 use Rattle.pricing_laws.proofs.Colours.{colours_few}
 use Rattle.pricing_laws.proofs.Groups.{members_rise}

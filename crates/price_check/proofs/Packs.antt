@@ -5,7 +5,7 @@ use Rattle.std.proofs.lemmas.Int.{ints}
 use Rattle.std.proofs.lemmas.List.Elements.{All-contains}
 use Rattle.mill_model.specs.declared.kind.Kind.{Kind}
 use Rattle.mill_model.specs.declared.kind.Kind.TheVariants.{New, Old}
-use Rattle.mill_model.specs.Columns.{Column, IsInStock, IsLegalColumn, has_barred, load, size_of}
+use Rattle.mill_model.specs.Columns.{Column, IsInStock, IsLegalColumn, has_barred, size_of}
 use Rattle.mill_model.specs.Decisions.{column_agrees}
 use Rattle.mill_model.specs.LeastSizes.{IsLeastSize, IsOfLeastSize}
 use Rattle.mill_model.proofs.Bars.{new_bars_none}
@@ -55,7 +55,7 @@ module _ (q : Problem) (orders : List ℕ) (weight : ℕ) (gain : ℤ) (pack : I
       let holds : weight ≤ other = omega (arith, legal.fits.weight, pack.load_is) in
       let rises : cost_of q.mill q.prices (New size) ≤ℤ cost_of q.mill q.prices (New other) = cost_rises q.mill q.prices size other sign (All-contains (λ u. weight ≤ u → size ≤ u) q.mill.sizes other least.least legal.fits.kind holds) in
       let best : excess q.mill q.prices (record { kind = New size; orders = orders }) ≤ℤ most = here (record { kind = New size; orders = orders })
-          (record { legal = pack_legal (New size) least.listed least.holds (new_bars_none q.mill (New size) orders refl); agrees = column_agrees_any_size size other orders q.decisions ∙ agrees }) refl in
+      (record { legal = pack_legal (New size) least.listed least.holds (new_bars_none q.mill (New size) orders refl); agrees = column_agrees_any_size size other orders q.decisions ∙ agrees }) refl in
       subst (λ (d : Column). excess q.mill q.prices d ≤ℤ most) (sym same) (omega (arith, ints, pack_excess (New size) least.holds, pack_excess (New other) holds, rises, best))
 
   -- no new slab holds them

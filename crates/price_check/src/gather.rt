@@ -4,9 +4,9 @@ ghost use Rattle.std.specs.Bool.{OnTrue, OnFalse};
 ghost use Rattle.pricing_laws.specs.Groups.{head_of};
 ghost use Rattle.price_check.specs.Searches.{AreGathered, AreHeadsIn, AreRanked, IsGroupIn, IsQueue, IsTabulated};
 
+use crate::grid::Grid;
 use crate::queue::Queue;
 use crate::search::Search;
-use crate::grid::Grid;
 use crate::table::step_for;
 
 impl Search<'_> {

@@ -12,6 +12,5 @@ pub(crate) struct Hunt<'a> {
     pub search: Search<'a>,
     pub colours: &'a [u16],
     pub queue: &'a Queue,
-    ghost queued: { IsQueue search colours.now queue.now }
-        by { Prim.hlevel (props, AreDistinct-prop) },
+    ghost queued: { IsQueue search colours.now queue.now } by { Prim.hlevel (props, AreDistinct-prop) },
 }

@@ -49,9 +49,10 @@ impl Path {
 
     /// An empty path for a mill of n orders and S surplus slabs. It takes all the memory that a path ever takes: for each
     /// of the n(n-1)/2 + n*S questions a decision (at most 8 bytes) and a mark (one byte), for each two orders a mark more
-    /// (n*n bytes), for each price 8 bytes, for each order 28 bytes, for each of 251 colours and of 10,001 loads 16 bytes,
-    /// and a bound (16 bytes) for each order and one more at each load up to the largest size, but at most 1,048,576
-    /// bounds: less than 17.5 MB at the limits, of which less than 610 KB are no bounds.
+    /// (n*n bytes), for each price 8 bytes, for each order 22 bytes, for lists of orders and of colours 4,510 bytes, for each
+    /// of 251 colours and of 10,001 loads 16 bytes, and a bound (16 bytes) for each order and one more at each load up to
+    /// the largest size, but at most 1,048,576 bounds: less than 17.5 MB at the limits, of which less than 610 KB are no
+    /// bounds.
     pub fn new(alloc: Global, mill: &Mill) -> Result<Path, AllocError>
         ensures { IfOk result (λ p. p ≡ record { orders = length mill.now.orders; slabs = length mill.now.yard; decisions = []; bad = None }) }
     {

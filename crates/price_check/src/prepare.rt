@@ -36,7 +36,9 @@ impl Leaf<'_> {
         frame.groups.form(self.mill, self.trail, self.quote);
         fill_apart(self.trail, frame.groups.heads(), &mut frame.apart);
         self.fill_keys(frame.groups.heads(), &mut frame.keys);
-        frame.by_colour.fill(&frame.keys, usize::from(self.mill.colours()) + 1);
+        frame
+            .by_colour
+            .fill(&frame.keys, usize::from(self.mill.colours()) + 1);
         frame.by_head.fill(frame.groups.heads(), count);
         self.fill_ends(&mut frame.ends);
         self.fill_worths(&frame.groups, &mut frame.worths);

@@ -58,8 +58,8 @@ impl Search<'_> {
         requires small { unsigned_abs worth ≤ 2 ^ 100 }
         ensures { (taken : List ℕ) → AreTakenFrom self.now rank taken worth
             → OnTrue result
-                (ExceedAtMost (problem_of self.now.leaf) (pos 0)
-                    (IsOfSetIn self.now taken rank left)) }
+            (ExceedAtMost (problem_of self.now.leaf) (pos 0)
+            (IsOfSetIn self.now taken rank left)) }
     {
         worth + i128::from(left) * self.top(rank) <= self.frame.floor
     }

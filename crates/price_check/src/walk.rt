@@ -73,7 +73,7 @@ impl Hunt<'_> {
         requires taken { AreTakenIn self.now (at + 1) chosen.now weight gain }
         ensures none { IfNone result ((most : ℤ)
             → ExceedAtMost (problem_of self.now.search.leaf) most
-                (IsChoiceWith self.now chosen.now at)) }
+            (IsChoiceWith self.now chosen.now at)) }
         ensures light { IfSome result (λ sums.
             sums.0 < length self.now.search.frame.now.ends.items) }
         ensures taken { IfSome result (λ sums. AreTakenWith self.now at chosen.now sums.0 sums.1) }

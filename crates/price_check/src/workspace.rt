@@ -44,7 +44,7 @@ impl Leaf<'_> {
             (NoneExceeds self.now.mill.now self.now.trail.now.decisions self.now.quote.now) }
         ensures some { IfSome result (λ kind.
             IsExceeding self.now.mill.now self.now.trail.now.decisions self.now.quote.now
-                (record { kind = kind; orders = workspace.new.picks.orders.items })) }
+            (record { kind = kind; orders = workspace.new.picks.orders.items })) }
     {
         workspace.space.colours.clear();
         workspace.picks.chosen.clear();

@@ -1,5 +1,5 @@
 -- What contracts see of a pool.
-use Rattle.std.specs.Prelude.{◌≡◌, ◌≢◌, ◌≤◌, ◌⊎◌, List, [], ◌∷◌, ◌++◌, length, All, AllPairs}
+use Rattle.std.specs.Prelude.{◌≡◌, ◌≢◌, ◌≤◌, List, ◌++◌, length, All, AllPairs}
 use Rattle.mill_model.specs.Mill.{Mill}
 use Rattle.mill_model.specs.Columns.{Column, IsLegalColumn}
 
@@ -19,8 +19,3 @@ pub record HasGrown (old new : Pool) : Type 0 where
   pub mill : new.mill ≡ old.mill
   pub more : List Column
   pub columns : new.columns ≡ old.columns ++ more
-
--- the mill stays, and the columns are as before or have this one more
-pub record IsWithOneMore (old new : Pool) (c : Column) : Type 0 where
-  pub mill : new.mill ≡ old.mill
-  pub columns : (new.columns ≡ old.columns) ⊎ (new.columns ≡ old.columns ++ c ∷ [])

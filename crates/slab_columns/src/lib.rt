@@ -4,12 +4,11 @@
 
 mod add_error;
 mod column;
-mod flat;
 mod fulls;
 mod index;
-mod last_basic;
 mod mill_copy;
 mod pool;
+mod stored;
 #[cfg(test)]
 mod tests;
 
@@ -19,6 +18,4 @@ pub use fulls::Fulls;
 pub use pool::Pool;
 // A crate can name a pool in a contract only if the types of its fields are exported.
 #[doc(hidden)]
-pub use flat::Start;
-#[doc(hidden)]
-pub use last_basic::Basics;
+pub use stored::Stored;

@@ -1,14 +1,13 @@
-ghost use Rattle.std.specs.Prelude.{◌≡◌, ◌≢◌, ◌<◌, ◌≤◌, ◌↔◌, ◌++◌, ◌∷◌, [], All, Contains, IfOk, IfSome, IfNone, IsOk, IsTrue, OnErr, OnOk, Err, Some, length, slice_get};
+ghost use Rattle.std.specs.Prelude.{◌≡◌, ◌≢◌, ◌<◌, ◌≤◌, ◌↔◌, ◌++◌, ◌∷◌, [], Contains, IfOk, IfSome, IfNone, IsOk, IsTrue, OnErr, OnOk, Err, Some, length, slice_get};
 ghost use Rattle.mill_model.specs.Columns.{IsLegalColumn};
 ghost use Rattle.slab_counter.specs.Counter.{next_count};
 ghost use Rattle.slab_columns.specs.Columns.{column_of, lent_column};
 ghost use Rattle.slab_columns.specs.Index.{key_of};
-ghost use Rattle.slab_columns.specs.Recency.{AreBelow};
 
-use crate::flat::{append_column, find_among, lent};
 use crate::index::{Index, ids_of, key_of, note};
 use crate::mill_copy::copy_of;
-use crate::{AddError, Basics, ColId, Column, Fulls, Start};
+use crate::stored::find_among;
+use crate::{AddError, ColId, Column, Fulls, Stored};
 use indexmap::IndexMap;
 use mill_model::{Kind, Mill};
 use std::alloc::{AllocError, Global};
@@ -17,33 +16,30 @@ use std::marker::Model;
 // A pool holds at most so many columns.
 const MOST_COLUMNS: usize = 8192;
 
-/// Columns that are legal for a mill and distinct, in the order in which they came: at most 8,192. All orders stand in one
-/// vector. Beside what contracts see, a pool remembers which of its columns were basic last.
+/// Columns that are legal for a mill and distinct, in the order in which they came: at most 8,192.
 #[derive(Drop)]
 pub struct Pool {
     mill: Mill,
-    orders: Vec<u16>,
-    starts: Vec<Start>,
+    columns: Vec<Stored>,
     index: Index,
-    basics: Basics,
 }
 
 impl Model for Pool {
-    ghost use Rattle.slab_columns.specs.Pool.{Pool};
+    ghost use Rattle.std.specs.Prelude.{map};
+    ghost use Rattle.slab_columns.specs.Pool.{Pool, IsPool};
 
     ghost Value = { Pool };
 
-    ghost use Rattle.slab_columns.specs.Flat.{columns_of};
-    ghost use Rattle.slab_columns.specs.Kept.{IsKept};
+    ghost use Rattle.slab_columns.specs.Columns.{stored_column};
+    ghost use Rattle.slab_columns.specs.Index.{IsIndex};
 
-    ghost view = { λ p. record { mill = p.mill; columns = columns_of p.orders.items p.starts.items } };
+    ghost view = { λ p. record { mill = p.mill; columns = map stored_column p.columns.items } };
 
-    ghost invariant = { λ p. IsKept p.mill p.orders.items p.starts.items p.index p.basics };
+    ghost invariant = { λ p. IsPool (record { mill = p.mill; columns = map stored_column p.columns.items }) × IsIndex (map stored_column p.columns.items) p.index };
 }
 
-#[tactic(auto, using(crate::proofs::FlatColumns::layout_facts))]
 impl Pool {
-    ghost use Rattle.slab_columns.specs.Pool.{IsPool, HasGrown, IsWithOneMore};
+    ghost use Rattle.slab_columns.specs.Pool.{IsPool, HasGrown};
 
     /// An empty pool for a mill, of which it keeps a copy.
     pub fn new(alloc: Global, mill: &Mill) -> Result<Pool, AllocError>
@@ -51,10 +47,8 @@ impl Pool {
     {
         Ok(Pool {
             mill: copy_of(alloc, mill)?,
-            orders: Vec::new(alloc),
-            starts: Vec::new(alloc),
+            columns: Vec::new(alloc),
             index: IndexMap::new(alloc),
-            basics: Basics::new(alloc),
         })
     }
 
@@ -64,7 +58,7 @@ impl Pool {
         ensures value { result ≡ length self.now.columns }
         ensures pool { IsPool self.now }
     {
-        self.starts.len()
+        self.columns.len()
     }
 
     /// Whether the pool has no column.
@@ -72,7 +66,7 @@ impl Pool {
     pub fn is_empty(&self) -> bool
         ensures { IsTrue result ↔ (length self.now.columns ≡ 0) }
     {
-        self.starts.is_empty()
+        self.columns.is_empty()
     }
 
     /// Lends a column, without a copy.
@@ -83,7 +77,7 @@ impl Pool {
         ensures legal { IsLegalColumn self.now.mill (lent_column result) }
         ensures pool { IsPool self.now }
     {
-        lent(&self.orders, &self.starts, id.0 as usize)
+        self.columns[id.0 as usize].lend()
     }
 
     /// The number of a column, unless the pool lacks it.
@@ -102,8 +96,7 @@ impl Pool {
         ensures within { IfSome result (λ id. id.0 < length self.now.columns) }
         ensures none { IfNone result (¬ Contains self.now.columns (column_of kind orders.now)) }
     {
-        let ids = ids_of(&self.index, key);
-        match find_among(&self.orders, &self.starts, ids, kind, orders) {
+        match find_among(&self.columns, ids_of(&self.index, key), kind, orders) {
             Some(id) => Some(ColId(id)),
             None => None,
         }
@@ -142,16 +135,15 @@ impl Pool {
         if let Some(id) = self.find_by_key(key, kind, orders) {
             return Ok(id);
         }
-        let id = self.starts.len();
+        let id = self.columns.len();
         if id == MOST_COLUMNS {
             fulls.raise();
             return Err(AddError::Full);
         }
-        self.orders.reserve(orders.len())?;
-        self.starts.reserve(1)?;
-        self.basics.reserve()?;
+        let column = Stored::new(alloc, kind, orders)?;
+        self.columns.reserve(1)?;
         note(alloc, &mut self.index, key, id as u16)?;
-        append_column(&mut self.orders, &mut self.starts, kind, orders);
+        self.columns.push_reserved(column);
         Ok(ColId(id as u16))
     }
 
@@ -159,60 +151,7 @@ impl Pool {
     pub fn restart(&mut self)
         ensures { self.new ≡ record self.old { columns = [] } }
     {
-        self.orders.clear();
-        self.starts.clear();
+        self.columns.clear();
         self.index.clear();
-        self.basics.clear();
-    }
-
-    /// Remembers that these columns were basic, the first of them last. It takes no memory.
-    pub fn note_basic(&mut self, ids: &[ColId])
-        requires { AreBelow (length self.old.columns) ids.now }
-        ensures { self.new ≡ self.old }
-    {
-        self.basics.note(ids);
-    }
-
-    /// The columns that were basic, the latest first.
-    #[inline]
-    pub fn recent(&self) -> &[ColId]
-        ensures below { AreBelow (length self.now.columns) result.now }
-        ensures pool { IsPool self.now }
-    {
-        self.basics.ids()
-    }
-
-    /// Keeps the columns that were basic last, at most so many, in the order of `recent`, and forgets the others. The only
-    /// error is want of memory, and the pool is as before then.
-    pub fn trim(&mut self, alloc: Global, keep: usize) -> Result<(), AllocError>
-        ensures mill { self.new.mill ≡ self.old.mill }
-        ensures kept { All (Contains self.old.columns) self.new.columns }
-        ensures few { OnOk result (length self.new.columns ≤ keep) }
-        ensures err { OnErr result (self.new ≡ self.old) }
-    {
-        let mut kept = Pool::new(alloc, &self.mill)?;
-        let count = keep.min(self.recent().len());
-        for id in &self.recent()[..count] {
-            kept.take_over(alloc, self.column(*id))?;
-        }
-        *self = kept;
-        Ok(())
-    }
-
-    // Adds a column of another pool for the same mill, as the one that was basic before the others.
-    fn take_over(&mut self, alloc: Global, column: Column<'_>) -> Result<(), AllocError>
-        requires room { length self.old.columns < 8192 }
-        requires legal { IsLegalColumn self.old.mill (lent_column column.entry) }
-        ensures grown { OnOk result (IsWithOneMore self.old self.new (lent_column column.entry)) }
-    {
-        let mut fulls = Fulls::new();
-        match self.add(alloc, column.kind, column.orders, &mut fulls) {
-            Ok(id) => {
-                self.basics.append(id);
-                Ok(())
-            }
-            Err(AddError::Memory) => Err(AllocError),
-            Err(AddError::Full) => unreachable!(),
-        }
     }
 }

@@ -1,5 +1,5 @@
 pub mod Lists
 pub mod Slabs
 pub mod FirstFit
-pub mod Plain
 pub mod Made
+pub mod Plain

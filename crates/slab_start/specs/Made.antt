@@ -20,7 +20,7 @@ first_weight seed k = 1 + (draw seed k / 65536) % 43
 abbrev pub made_weight : ℕ → ℕ → ℕ → ℕ
 made_weight orders seed i =
     (if nat_eq (i % 2) 1 then 44 - first_weight seed (i / 2 + 1)
-     else (if nat_eq (i + 1) orders then 44 else first_weight seed (i / 2 + 1)))
+    else (if nat_eq (i + 1) orders then 44 else first_weight seed (i / 2 + 1)))
 
 abbrev pub made_order : ℕ → ℕ → ℕ → Order
 made_order orders seed i = record { weight = made_weight orders seed i; colour = i % 88 + 1 }

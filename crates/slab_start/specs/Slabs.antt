@@ -11,19 +11,37 @@ use Rattle.slab_start.specs.Lists.{put_before}
 abbrev pub empty : Kind → Column
 empty kind = record { kind = kind; orders = [] }
 
--- the slab with one order more; its orders rise
+-- orders that rise, with one more
+abbrev pub put_order : ℕ → List ℕ → List ℕ
+put_order o orders = put_before (nat_lt o) o orders
+
+-- the slab with one order more
 abbrev pub with_order : ℕ → Column → Column
-with_order o c = record c { orders = put_before (nat_lt o) o c.orders }
+with_order o c = record c { orders = put_order o c.orders }
+
+-- the load stays within the size
+abbrev pub has_room : Mill → ℕ → Column → Bool
+has_room m o c = nat_le (load m (put_order o c.orders)) (size_of m c.kind)
+
+-- there are not too many colours
+abbrev pub has_few_colours : Mill → ℕ → Column → Bool
+has_few_colours m o c = nat_le (colours_of m (put_order o c.orders)) m.colour_limit
+
+-- the slab holds the order with its others, and it isn't barred from the slab
+abbrev pub takes : Mill → ℕ → Column → Bool
+takes m o c = has_room m o c && has_few_colours m o c && not (is_barred m o c.kind)
+
+-- a slab without other orders takes it
+abbrev pub takes_alone : Mill → ℕ → Kind → Bool
+takes_alone m o kind = takes m o (empty kind)
 
 -- the first of its orders, which is the least
 abbrev pub least_order : Column → ℕ
 least_order c = slice_index_or c.orders 0 0
 
--- the load stays within the size, there are not too many colours, and the order isn't barred from the slab
-abbrev pub takes : Mill → ℕ → Column → Bool
-takes m o c =
-    nat_le (load m (with_order o c).orders) (size_of m c.kind)
-    && nat_le (colours_of m (with_order o c).orders) m.colour_limit && not (is_barred m o c.kind)
+-- whether the other's least order is greater
+abbrev pub is_later : Column → Column → Bool
+is_later c other = nat_lt (least_order c) (least_order other)
 
 -- the least listed size that is at least the load, where there is one
 abbrev pub least_size : Mill → ℕ → ℕ

@@ -6,7 +6,7 @@ ghost use Rattle.mill_model.specs.Columns.{has};
 use mill_model::MOST_COLOUR_LIMIT;
 use std::marker::Model;
 
-// A few different colours, in the order in which they came: never more than the greatest colour limit.
+// A few different colours, in the order in which they came: no more than the greatest colour limit.
 #[derive(Drop)]
 pub(crate) struct ColourSet {
     colours: [u16; MOST_COLOUR_LIMIT as usize],

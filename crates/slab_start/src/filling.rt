@@ -1,11 +1,12 @@
 //! Where an order goes.
 
-ghost use Rattle.std.specs.Prelude.{◌≡◌, [], Some, None, IfOk, if◌then◌else◌};
+ghost use Rattle.std.specs.Prelude.{◌≡◌, [], IfOk};
+ghost use Rattle.std.specs.Bool.{then_some};
 ghost use Rattle.std.specs.Option.{option_map};
 ghost use Rattle.std.specs.List.{position, find, count_by, list_any};
 ghost use Rattle.mill_model.specs.Columns.{is_old as is_surplus};
 ghost use Rattle.mill_model.specs.Plans.{is_new};
-ghost use Rattle.slab_start.specs.Slabs.{empty, takes as takes_order};
+ghost use Rattle.slab_start.specs.Slabs.{takes as takes_order, takes_alone};
 ghost use Rattle.slab_start.specs.FirstFit.{place_orders, place_order as placed_order, is_below as is_below_limit, kinds_of, kinds_to_open, free_kinds};
 
 use crate::slab::{Slab, greatest_size, takes};
@@ -19,7 +20,8 @@ pub(crate) fn fill(
     limit: Option<i64>,
     orders: &[u16],
 ) -> Result<Option<Vec<Slab>>, AllocError>
-    ensures { IfOk result (λ found. option_map (λ slabs. slabs.items) found ≡ place_orders mill.now limit orders.now []) }
+    ensures { IfOk result (λ found.
+        option_map (λ slabs. slabs.items) found ≡ place_orders mill.now limit orders.now []) }
 {
     let mut slabs = Vec::new(alloc);
     for order in orders {
@@ -38,7 +40,8 @@ fn place_order(
     order: u16,
     slabs: &mut Vec<Slab>,
 ) -> Result<bool, AllocError>
-    ensures { IfOk result (λ placed. placed_order mill.now limit order slabs.old.items ≡ (if placed then Some slabs.new.items else None)) }
+    ensures { IfOk result (λ placed.
+        placed_order mill.now limit order slabs.old.items ≡ then_some placed slabs.new.items) }
 {
     if let Some(k) = first_that_takes(mill, order, slabs) {
         slabs[k].put(order)?;
@@ -61,9 +64,10 @@ fn first_that_takes(mill: &Mill, order: u16, slabs: &[Slab]) -> Option<usize>
     slabs.iter().position(|slab| slab.takes(mill, order))
 }
 
-// The slab to be opened for an order: a new one, where it may be and takes it, or the first free surplus slab that does.
+// The slab to be opened for an order: a new one, where it may be and takes it, or the first free surplus slab that
+// does.
 fn kind_to_open(mill: &Mill, limit: Option<i64>, order: u16, slabs: &[Slab]) -> Option<Kind>
-    ensures { result ≡ find (λ kind. takes_order mill.now order (empty kind)) (kinds_to_open mill.now limit slabs.now) }
+    ensures { result ≡ find (takes_alone mill.now order) (kinds_to_open mill.now limit slabs.now) }
 {
     let new = Kind::New(greatest_size(mill));
     if is_below(new_slabs(slabs), limit) && takes(mill, new, &[], order) {
@@ -73,7 +77,7 @@ fn kind_to_open(mill: &Mill, limit: Option<i64>, order: u16, slabs: &[Slab]) -> 
 }
 
 fn surplus_to_open(mill: &Mill, order: u16, slabs: &[Slab]) -> Option<Kind>
-    ensures { result ≡ find (λ kind. takes_order mill.now order (empty kind)) (free_kinds mill.now slabs.now) }
+    ensures { result ≡ find (takes_alone mill.now order) (free_kinds mill.now slabs.now) }
 {
     let count = mill.yard().len();
     prove!(count <= MOST_SLABS as usize);

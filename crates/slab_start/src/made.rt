@@ -12,8 +12,8 @@ const SIZES: [u16; 20] = [
     12, 14, 17, 18, 19, 20, 23, 24, 25, 26, 27, 28, 29, 30, 32, 35, 39, 42, 43, 44,
 ];
 
-/// The mill of so many orders (at most 250) that a number makes: each two orders fill a slab of size 44, and a last order
-/// without a partner fills one alone. The same number makes the same mill. Its only error is want of memory.
+/// The mill of so many orders (at most 250) that a number makes: each two orders fill a slab of size 44, and a last
+/// order without a partner fills one alone. The same number makes the same mill. Its only error is want of memory.
 pub fn make_mill(alloc: Global, orders: u16, seed: u32) -> Result<Mill, AllocError>
     requires { orders ≤ most_orders }
     ensures { IfOk result (λ mill. mill ≡ made_mill orders seed) }

@@ -5,8 +5,8 @@ use Rattle.std.proofs.lemmas.Nat.{mul-le}
 use Rattle.slab_counter.specs.Counter.{last_count}
 use Rattle.mill_model.specs.Mill.{Mill}
 use Rattle.mill_model.specs.Trees.{most_nodes}
-use Rattle.slab_node.specs.Tallies.{AreNoLess, HaveCauses}
-use Rattle.slab_node.specs.declared.tally.Tally.{Tally}
+use Rattle.slab_relax.specs.Tallies.{AreNoLess, HaveCauses}
+use Rattle.slab_relax.specs.declared.tally.Tally.{Tally}
 use Rattle.slab_tree.specs.Counts.{Counts}
 use Rattle.slab_tree.proofs.Tallies.{causes_trans}
 use Rattle.slab_sweep.specs.Counting.{most_questions, OpensFew, OpensOneTree, CountsNodes, CountsBares}

@@ -10,8 +10,8 @@ use Rattle.mill_model.specs.Starts.{IsAsTold}
 use Rattle.mill_model.specs.Marks.{MarkedSteps}
 use Rattle.mill_model.specs.Fronts.{Point}
 use Rattle.mill_model.proofs.MarkLaws.{splits_weaker}
-use Rattle.slab_node.specs.Tallies.{AreNoLess}
-use Rattle.slab_node.specs.declared.tally.Tally.{Tally}
+use Rattle.slab_relax.specs.Tallies.{AreNoLess}
+use Rattle.slab_relax.specs.declared.tally.Tally.{Tally}
 use Rattle.slab_tree.specs.Marking.{HasCoverUnlessBare}
 use Rattle.slab_tree.specs.Unfinished.{IsCutTree}
 use Rattle.slab_tree.proofs.Limits.{at_most_refl, at_most_trans, cover_greater}

@@ -6,8 +6,8 @@ use Rattle.mill_model.specs.declared.sums.Sums.{Sums}
 use Rattle.mill_model.specs.Mill.{Mill}
 use Rattle.mill_model.specs.Marks.{MarkedSteps}
 use Rattle.mill_model.specs.Fronts.{Point, IsGoodHead, last_sums}
-use Rattle.slab_node.specs.Tallies.{AreNoLess, HaveCauses}
-use Rattle.slab_node.specs.declared.tally.Tally.{Tally}
+use Rattle.slab_relax.specs.Tallies.{AreNoLess, HaveCauses}
+use Rattle.slab_relax.specs.declared.tally.Tally.{Tally}
 use Rattle.slab_tree.specs.Counts.{Counts}
 use Rattle.slab_tree.specs.Marking.{bare_marks}
 use Rattle.slab_tree.proofs.Tallies.{no_less_refl, no_less_trans, causes_same, causes_trans}

@@ -9,8 +9,8 @@ use Rattle.mill_model.specs.declared.limits.Limits.{Limits}
 use Rattle.mill_model.specs.Mill.{Mill}
 use Rattle.mill_model.specs.Plans.{Plan, sums_of}
 use Rattle.mill_model.specs.Marks.{MarkedSteps}
-use Rattle.slab_node.specs.Tallies.{AreNoLess, HasCause, HaveCauses}
-use Rattle.slab_node.specs.declared.tally.Tally.{Tally}
+use Rattle.slab_relax.specs.Tallies.{AreNoLess, HasCause, HaveCauses}
+use Rattle.slab_relax.specs.declared.tally.Tally.{Tally}
 use Rattle.slab_tree.specs.declared.tree.Phase.TheVariants.{Refused}
 use Rattle.slab_tree.specs.Counts.{Counts, AreRaised}
 use Rattle.slab_tree.specs.Marking.{ShowsCoverUnlessBare, bare_marks}

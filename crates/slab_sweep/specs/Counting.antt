@@ -3,8 +3,8 @@ use Rattle.std.specs.Prelude.{◌≡◌, ℕ, ◌+◌, ◌*◌, ◌≤◌, ◌�
 use Rattle.slab_counter.specs.Counter.{last_count}
 use Rattle.mill_model.specs.Mill.{Mill}
 use Rattle.mill_model.specs.Trees.{most_nodes, node_bound}
-use Rattle.slab_node.specs.Tallies.{HaveCauses}
-use Rattle.slab_node.specs.declared.tally.Tally.{Tally}
+use Rattle.slab_relax.specs.Tallies.{HaveCauses}
+use Rattle.slab_relax.specs.declared.tally.Tally.{Tally}
 use Rattle.slab_tree.specs.Counts.{Counts}
 
 -- how many questions a sweep asks at most: for no count limit, and for each from one less than the number of orders to -1

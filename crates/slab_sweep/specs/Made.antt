@@ -9,8 +9,8 @@ use Rattle.mill_model.specs.Limits.{AreSmaller}
 use Rattle.mill_model.specs.Trees.{most_nodes}
 use Rattle.mill_model.specs.Marks.{MarkedSteps}
 use Rattle.mill_model.specs.Fronts.{Point, below, last_sums}
-use Rattle.slab_node.specs.Tallies.{HasCause}
-use Rattle.slab_node.specs.declared.tally.Tally.{Tally}
+use Rattle.slab_relax.specs.Tallies.{HasCause}
+use Rattle.slab_relax.specs.declared.tally.Tally.{Tally}
 use Rattle.slab_tree.specs.Marking.{bare_marks}
 use Rattle.slab_tree.specs.Searches.{IsLeast, HasNoPlan}
 use Rattle.slab_tree.specs.Steps.{IsTightRefutation}

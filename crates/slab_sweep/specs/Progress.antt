@@ -5,8 +5,8 @@ use Rattle.mill_model.specs.Mill.{Mill}
 use Rattle.mill_model.specs.Plans.{Plan, sums_of}
 use Rattle.mill_model.specs.Trees.{most_nodes, node_bound}
 use Rattle.mill_model.specs.Fronts.{Point, IsGoodHead, last_sums}
-use Rattle.slab_node.specs.Tallies.{AreNoLess, HaveCauses}
-use Rattle.slab_node.specs.declared.tally.Tally.{Tally}
+use Rattle.slab_relax.specs.Tallies.{AreNoLess, HaveCauses}
+use Rattle.slab_relax.specs.declared.tally.Tally.{Tally}
 use Rattle.slab_tree.specs.Counts.{Counts}
 use Rattle.slab_sweep.specs.Openings.{Telling}
 use Rattle.slab_sweep.specs.Made.{GoesOnFrom, nodes_of, bares_of}

@@ -6,7 +6,7 @@ use Rattle.mill_model.specs.Plans.{Plan, sums_of}
 use Rattle.mill_model.specs.Plain.{IsPlainlyRefuted}
 use Rattle.mill_model.specs.Marks.{MarkedSteps}
 use Rattle.mill_model.specs.Fronts.{Point, IsGoodHead, IsGoodWhole, last_sums}
-use Rattle.slab_node.specs.declared.tally.Tally.{Tally}
+use Rattle.slab_relax.specs.declared.tally.Tally.{Tally}
 use Rattle.slab_tree.specs.Counts.{Counts}
 use Rattle.slab_tree.specs.Marking.{bare_marks}
 use Rattle.slab_sweep.specs.declared.swept.Swept.{Swept}

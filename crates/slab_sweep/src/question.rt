@@ -6,7 +6,7 @@ ghost use Rattle.mill_model.specs.Plain.{IsPlainlyRefuted};
 ghost use Rattle.mill_model.specs.Plans.{IsLegal, sums_of};
 ghost use Rattle.mill_model.specs.Starts.{IsStart};
 ghost use Rattle.slab_master.specs.Given.{IsSmall};
-ghost use Rattle.slab_node.specs.Tallies.{AreNoLess, HaveCauses};
+ghost use Rattle.slab_relax.specs.Tallies.{AreNoLess, HaveCauses};
 ghost use Rattle.slab_tree.specs.Marking.{bare_marks};
 ghost use Rattle.slab_tree.specs.Searches.{IsFinished, bare_count, limits_of, opening_of as opening_of_tree};
 ghost use Rattle.slab_tree.specs.Tightening.{MayCountBare};

@@ -2,7 +2,7 @@
 
 ghost use Rattle.std.specs.Prelude.{◌≡◌, [], IfOk};
 ghost use Rattle.mill_model.specs.Fronts.{IsGoodHead};
-ghost use Rattle.slab_node.specs.Tallies.{AreNoLess, HaveCauses};
+ghost use Rattle.slab_relax.specs.Tallies.{AreNoLess, HaveCauses};
 ghost use Rattle.slab_sweep.specs.Counting.{OpensFew, CountsNodes};
 ghost use Rattle.slab_sweep.specs.Swept.{IsSwept, IsSweptAtOnce, IsToldPlainly, made_nodes, ended_with};
 

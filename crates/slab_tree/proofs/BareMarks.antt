@@ -9,8 +9,8 @@ use Rattle.mill_model.specs.declared.mark.Mark.{Mark}
 use Rattle.mill_model.specs.Paths.{next_branch}
 use Rattle.mill_model.specs.Prices.{Prices}
 use Rattle.slab_counter.specs.Counter.{last_count}
-use Rattle.slab_node.specs.declared.tally.Tally.{Tally}
-use Rattle.slab_node.specs.Tallies.{AreNoLess, HasCause, HaveCauses}
+use Rattle.slab_relax.specs.declared.tally.Tally.{Tally}
+use Rattle.slab_relax.specs.Tallies.{AreNoLess, HasCause, HaveCauses}
 use Rattle.slab_tree.specs.declared.node.Node.{Node}
 use Rattle.slab_tree.specs.declared.node.Node.TheVariants.{Closed, Branched}
 use Rattle.slab_tree.specs.Counts.{Counts, AreRaised}

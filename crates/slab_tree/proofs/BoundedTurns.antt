@@ -5,12 +5,12 @@ use Rattle.mill_model.specs.Mill.{Mill}
 use Rattle.mill_model.specs.Prices.{Prices}
 use Rattle.mill_model.specs.Decisions.{Decision}
 use Rattle.mill_model.specs.Limits.{AreSmaller}
-use Rattle.slab_node.specs.declared.tally.Tally.{Tally}
+use Rattle.slab_relax.specs.declared.tally.Tally.{Tally}
 use Rattle.slab_node.specs.declared.turned.Turned.{Turned}
 use Rattle.slab_node.specs.declared.turned.Turned.TheVariants.{Refuted, InBox, Spread, Bare}
-use Rattle.slab_node.specs.Tallies.{AreNoLess}
+use Rattle.slab_relax.specs.Tallies.{AreNoLess}
 use Rattle.slab_node.specs.Turns.{IsTurn, IsRefuted, IfSpread}
-use Rattle.slab_node.specs.PoolCovers.{IsPoolCover}
+use Rattle.slab_relax.specs.PoolCovers.{IsPoolCover}
 use Rattle.mill_model.specs.Columns.{Column}
 use Rattle.slab_tree.proofs.Limits.{box_greater, cover_greater, pool_cover_greater}
 use Rattle.slab_tree.proofs.Tallies.{cause_later}

@@ -18,7 +18,7 @@ use Rattle.mill_model.specs.Plain.{IsPlainlyRefuted, greatest_size, total_weight
 use Rattle.mill_model.specs.Plans.{Plan, sums_of}
 use Rattle.mill_model.specs.Prices.{Prices, Refutes}
 use Rattle.mill_model.proofs.Signed.{mul_le, mul_le_pos}
-use Rattle.slab_node.specs.PoolCovers.{Cover, IsPoolCover, parts_of}
+use Rattle.slab_relax.specs.PoolCovers.{Parts, IsPoolCover, parts_of}
 use Rattle.slab_node.specs.Turns.{HasCover, IsInBox}
 use Rattle.slab_tree.specs.Marking.{HoldsCover, HasCoverUnlessBare}
 use Rattle.slab_tree.specs.Bounding.{IsPaidFor}
@@ -61,10 +61,10 @@ is_cover_greater m smaller limits path d parts h c = record {
 pub cover_greater : (m : Mill) (smaller limits : Limits) (path : List Decision) → AreSmaller smaller limits → HasCover m smaller path → HasCover m limits path
 cover_greater m smaller limits path h c = record { denominator = c.denominator; parts = c.parts; covers = is_cover_greater m smaller limits path c.denominator c.parts h c.covers }
 
-pub pool_cover_greater : (m : Mill) (smaller limits : Limits) (path : List Decision) (columns : List Column) (cover : Cover) → AreSmaller smaller limits → IsPoolCover m smaller path columns cover → IsPoolCover m limits path columns cover
+pub pool_cover_greater : (m : Mill) (smaller limits : Limits) (path : List Decision) (columns : List Column) (cover : Parts) → AreSmaller smaller limits → IsPoolCover m smaller path columns cover → IsPoolCover m limits path columns cover
 pool_cover_greater m smaller limits path columns cover h c = record {
   within = c.within;
-  signs = c.signs;
+  above = c.above;
   denominator = c.denominator;
   wholes = c.wholes;
   positive = c.positive;

@@ -163,6 +163,10 @@ module _ (m : Mill) (old new : Search) where
 pub split_asks : (m : Mill) (t : Search) (ask : Ask) (mark : Mark) (rest : List Node) → IsRewriting m t (Branched ask mark ∷ rest) → IsOpenAsk m t.path ask
 split_asks m t ask mark rest h = (at_split m t ask mark rest h.at_tree).done.splits.0.opened
 
+-- its mark holds for the opening limits
+pub marked_at : (m : Mill) (t : Search) (ask : Ask) (mark : Mark) (rest : List Node) → IsRewriting m t (Branched ask mark ∷ rest) → HoldsCover m (opening_of t) mark t.path
+marked_at m t ask mark rest h = (at_split m t ask mark rest h.at_tree).done.splits.0.marked
+
 -- no plan is left within the limits
 pub no_plan_left : (m : Mill) (t : Search) (rest : List Node) (p : Plan) → IsRewriting m t rest → IsInBox m (limits_of t) t.path p → ⊥
 no_plan_left m t rest p h inside =

@@ -1,5 +1,5 @@
 -- A cover stays one without the columns whose multiplier is 0.
-use Rattle.std.proofs.Common.{◌≡◌, ℕ, zero, suc, ◌+◌, ◌*◌, ◌^◌, ◌<◌, ◌≤◌, ℤ, pos, negsuc, ◌*ℤ◌, ◌≤ℤ◌, Bool, true, false, Some, List, [], ◌∷◌, ◌++◌, map, length, All, refl, sym, ap, ap₂, subst, ◌∙◌, append_assoc, append-nil, arith, cond, unsigned_abs}
+use Rattle.std.proofs.Common.{◌≡◌, ℕ, zero, suc, ◌+◌, ◌*◌, ◌^◌, ◌<◌, ◌≤◌, ℤ, pos, negsuc, ◌*ℤ◌, ◌<ℤ◌, ◌≤ℤ◌, Bool, true, false, Some, List, [], ◌∷◌, ◌++◌, map, length, All, refl, sym, ap, ap₂, subst, ◌∙◌, append_assoc, append-nil, arith, cond, unsigned_abs}
 use Rattle.std.specs.List.{sum_by, AllByRecursion}
 use Rattle.std.proofs.lemmas.Int.{ints}
 use Rattle.std.proofs.lemmas.List.{map-append}
@@ -16,10 +16,10 @@ use Rattle.mill_model.specs.Shares.{Share, part_of, IsMultiplier, IsShown}
 use Rattle.slab_columns.specs.declared.column.ColId.{ColId}
 use Rattle.slab_frac.specs.Fraction.{Fraction}
 use Rattle.slab_frac.specs.Scaled.{IsScaled, IsMultipleBy, IsCommonForm, AreInRange}
-use Rattle.slab_node.specs.PoolCovers.{Cover, IsPoolCover, column_at, multipliers, parts_of}
+use Rattle.slab_relax.specs.PoolCovers.{Parts, IsPoolCover, column_at, multipliers, parts_of}
 use Rattle.slab_tree.specs.Showing.{share_of, shares_of}
 
-pub shares_of-push : (columns : List Column) (xs : Cover) (ks : List ℤ) (x : ColId × Fraction) (k : ℤ) → length xs ≡ length ks → shares_of columns (xs ++ x ∷ []) (ks ++ k ∷ []) ≡ shares_of columns xs ks ++ share_of (column_at columns x.0) k
+pub shares_of-push : (columns : List Column) (xs : Parts) (ks : List ℤ) (x : ColId × Fraction) (k : ℤ) → length xs ≡ length ks → shares_of columns (xs ++ x ∷ []) (ks ++ k ∷ []) ≡ shares_of columns xs ks ++ share_of (column_at columns x.0) k
 shares_of-push columns [] [] x k e = append-nil (share_of (column_at columns x.0) k)
 shares_of-push columns [] (j ∷ ks) x k e = absurd (omega arith)
 shares_of-push columns (y ∷ xs) [] x k e = absurd (omega arith)
@@ -35,7 +35,7 @@ module _ (columns : List Column) (f : Part → ℕ) (none : (c : Column) → f (
   one_share c (pos (suc k)) h = omega arith
   one_share c (negsuc k) h = absurd (omega (arith, ints))
 
-  pub same_sum : (cover : Cover) (ks : List ℤ) → AreNotNegative ks → sum_by f (map part_of (shares_of columns cover ks)) ≡ sum_by f (parts_of columns cover ks)
+  pub same_sum : (cover : Parts) (ks : List ℤ) → AreNotNegative ks → sum_by f (map part_of (shares_of columns cover ks)) ≡ sum_by f (parts_of columns cover ks)
   same_sum [] ks h = refl
   same_sum (part ∷ cover) [] h = refl
   same_sum (part ∷ cover) (k ∷ ks) h =
@@ -54,7 +54,7 @@ module _ (columns : List Column) (P : Column → Type 0) where
   legal_share c (pos (suc k)) h = (h, tt)
   legal_share c (negsuc k) h = tt
 
-  pub legal_shares : (cover : Cover) (ks : List ℤ) → AllByRecursion (λ (part : Part). P part.0) (parts_of columns cover ks) → AllByRecursion (λ (part : Part). P part.0) (map part_of (shares_of columns cover ks))
+  pub legal_shares : (cover : Parts) (ks : List ℤ) → AllByRecursion (λ (part : Part). P part.0) (parts_of columns cover ks) → AllByRecursion (λ (part : Part). P part.0) (map part_of (shares_of columns cover ks))
   legal_shares [] ks h = tt
   legal_shares (part ∷ cover) [] h = tt
   legal_shares (part ∷ cover) (k ∷ ks) h =
@@ -69,14 +69,14 @@ small_share c (negsuc k) h = tt
 abbrev AreSmall : List ℤ → Type 0
 AreSmall ks = AllByRecursion (λ k. unsigned_abs k ≤ 2 ^ 62) ks
 
-small_shares : (columns : List Column) (cover : Cover) (ks : List ℤ) → AreSmall ks → AllByRecursion (λ (share : Share). IsMultiplier share.times) (shares_of columns cover ks)
+small_shares : (columns : List Column) (cover : Parts) (ks : List ℤ) → AreSmall ks → AllByRecursion (λ (share : Share). IsMultiplier share.times) (shares_of columns cover ks)
 small_shares columns [] ks h = tt
 small_shares columns (part ∷ cover) [] h = tt
 small_shares columns (part ∷ cover) (k ∷ ks) h = all_append (λ (share : Share). IsMultiplier share.times) (share_of (column_at columns part.0) k) (shares_of columns cover ks) (small_share (column_at columns part.0) k h.0) (small_shares columns cover ks h.1)
 
 -- ---- the cover
 
-shown_cover : (m : Mill) (limits : Limits) (decisions : List Decision) (columns : List Column) (cover : Cover) (d : ℕ) (ks : List ℤ) → AreNotNegative ks → IsCover m limits decisions d (parts_of columns cover ks) → IsCover m limits decisions d (map part_of (shares_of columns cover ks))
+shown_cover : (m : Mill) (limits : Limits) (decisions : List Decision) (columns : List Column) (cover : Parts) (d : ℕ) (ks : List ℤ) → AreNotNegative ks → IsCover m limits decisions d (parts_of columns cover ks) → IsCover m limits decisions d (map part_of (shares_of columns cover ks))
 shown_cover m limits decisions columns cover d ks signs h = record {
   denominator = h.denominator;
   legal = legal_shares columns (λ c. IsLegalColumn m c × (column_agrees decisions c ≡ true)) cover ks h.legal;
@@ -92,21 +92,21 @@ shown_cover m limits decisions columns cover d ks signs h = record {
 
 -- ---- the multipliers
 
-scaled_sign : (d : ℕ) (x : Fraction) (k : ℤ) → pos 0 ≤ℤ x.num → IsMultipleBy d x k → pos 0 ≤ℤ k
+scaled_sign : (d : ℕ) (x : Fraction) (k : ℤ) → pos 0 <ℤ x.num → IsMultipleBy d x k → pos 0 ≤ℤ k
 scaled_sign d x (pos k) h w = omega (arith, ints)
 scaled_sign d x (negsuc k) h w = absurd (below k x.den x.num d w.0 h w.1)
   where
-    below : (k den : ℕ) (num : ℤ) (d : ℕ) → 0 < den → pos 0 ≤ℤ num → negsuc k *ℤ pos den ≡ num *ℤ pos d → ⊥
+    below : (k den : ℕ) (num : ℤ) (d : ℕ) → 0 < den → pos 0 <ℤ num → negsuc k *ℤ pos den ≡ num *ℤ pos d → ⊥
     below k den (pos num) d lt h e = omega (arith, ints)
     below k den (negsuc num) d lt h e = omega (arith, ints)
 
-scaled_signs : (d : ℕ) (cover : Cover) (ks : List ℤ) → All (λ (part : ColId × Fraction). pos 0 ≤ℤ part.1.num) cover → IsScaled d (multipliers cover) ks → AreNotNegative ks
+scaled_signs : (d : ℕ) (cover : Parts) (ks : List ℤ) → All (λ (part : ColId × Fraction). pos 0 <ℤ part.1.num) cover → IsScaled d (multipliers cover) ks → AreNotNegative ks
 scaled_signs d [] [] h w = tt
 scaled_signs d [] (k ∷ ks) h w = absurd w
 scaled_signs d (part ∷ cover) [] h w = absurd w
 scaled_signs d (part ∷ cover) (k ∷ ks) h w = (
-  scaled_sign d part.1 k (All-head (λ (p : ColId × Fraction). pos 0 ≤ℤ p.1.num) part cover h) w.0,
-  scaled_signs d cover ks (All-tail (λ (p : ColId × Fraction). pos 0 ≤ℤ p.1.num) part cover h) w.1,
+  scaled_sign d part.1 k (All-head (λ (p : ColId × Fraction). pos 0 <ℤ p.1.num) part cover h) w.0,
+  scaled_signs d cover ks (All-tail (λ (p : ColId × Fraction). pos 0 <ℤ p.1.num) part cover h) w.1,
 )
 
 all_small : (ks : List ℤ) → AreInRange ks → AreSmall ks
@@ -117,10 +117,10 @@ denominator_small : (z : ℤ) → 0 < unsigned_abs z → pos (unsigned_abs z) �
 denominator_small z lt e le = (omega (arith, ints), omega (arith, ints))
 
 -- a cover over its least common denominator is shown by its columns with multipliers above 0
-pub shows : (m : Mill) (limits : Limits) (decisions : List Decision) (columns : List Column) (cover : Cover) (z : ℤ) (ks : List ℤ) → IsPoolCover m limits decisions columns cover → IsCommonForm (multipliers cover) z ks
+pub shows : (m : Mill) (limits : Limits) (decisions : List Decision) (columns : List Column) (cover : Parts) (z : ℤ) (ks : List ℤ) → IsPoolCover m limits decisions columns cover → IsCommonForm (multipliers cover) z ks
     → IsShown m limits decisions (record { d = z; shares = shares_of columns cover ks })
 shows m limits decisions columns cover z ks h form = record {
   denominator = denominator_small z form.least.positive form.positive form.in_range.0;
   multipliers = small_shares columns cover ks (all_small ks form.in_range.1);
-  covers = shown_cover m limits decisions columns cover (unsigned_abs z) ks (scaled_signs (unsigned_abs z) cover ks h.signs form.scaled) (h.every (unsigned_abs z) ks form.least.positive form.scaled);
+  covers = shown_cover m limits decisions columns cover (unsigned_abs z) ks (scaled_signs (unsigned_abs z) cover ks h.above form.scaled) (h.every (unsigned_abs z) ks form.least.positive form.scaled);
 }

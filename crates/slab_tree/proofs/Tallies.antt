@@ -3,8 +3,8 @@ use Rattle.std.proofs.Common.{◌≡◌, ℕ, ◌+◌, ◌<◌, ◌≤◌, arith
 use Rattle.std.proofs.lemmas.Bool.{cases_lt}
 use Rattle.std.proofs.lemmas.Bool.Decides.{nat_tests}
 use Rattle.slab_counter.specs.Counter.{Rose, last_count}
-use Rattle.slab_node.specs.declared.tally.Tally.{Tally}
-use Rattle.slab_node.specs.Tallies.{AreNoLess, HasCause, IsAtLast, HaveCauses}
+use Rattle.slab_relax.specs.declared.tally.Tally.{Tally}
+use Rattle.slab_relax.specs.Tallies.{AreNoLess, HasCause, IsAtLast, HaveCauses}
 
 pub no_less_refl : (a : Tally) → AreNoLess a a
 no_less_refl a = record { wides = omega arith; stalls = omega arith; fulls = omega arith }

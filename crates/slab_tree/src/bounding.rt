@@ -6,8 +6,8 @@ ghost use Rattle.mill_model.specs.SignedSums.{total_by};
 ghost use Rattle.mill_model.specs.Prices.{IsPrice};
 ghost use Rattle.mill_model.specs.Plain.{IsPlainlyRefuted};
 ghost use Rattle.slab_master.specs.Given.{IsSmall};
-ghost use Rattle.slab_node.specs.PoolCovers.{IsPoolCover};
-ghost use Rattle.slab_node.specs.Tallies.{AreNoLess};
+ghost use Rattle.slab_relax.specs.PoolCovers.{IsPoolCover};
+ghost use Rattle.slab_relax.specs.Tallies.{AreNoLess};
 ghost use Rattle.slab_node.specs.Turns.{IsNode, IsTurn, IsRefuted, IfSpread};
 ghost use Rattle.slab_tree.specs.Bounding.{HasLimits, IsWorth, IsPaidFor};
 

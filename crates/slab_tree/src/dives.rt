@@ -1,7 +1,7 @@
 //! Throw-away dives: a cover's large columns are decided one after another, in the hope of a plan.
 
 ghost use Rattle.std.specs.Prelude.{◌≡◌, IfOk, IfSome};
-ghost use Rattle.slab_node.specs.Tallies.{AreNoLess};
+ghost use Rattle.slab_relax.specs.Tallies.{AreNoLess};
 ghost use Rattle.slab_node.specs.Turns.{IsNode};
 ghost use Rattle.slab_tree.specs.FoundPlans.{IsFoundPlan};
 ghost use Rattle.slab_tree.specs.Trails.{HasExtentOf};
@@ -21,6 +21,7 @@ const MOST_TURNS: u32 = 300;
 
 // After each turn it decides at most so many columns: those with at least this share, or else the largest.
 const MOST_COLUMNS: usize = 8;
+
 const LARGE: u32 = ONE / 4 * 3;
 
 // A dive from a node whose decisions are the path. It answers a plan within the limits, or none, and leaves other decisions.

@@ -135,7 +135,10 @@ impl Guide {
         if self.dives % 2 == 1 || self.aim >= most {
             return smaller_limits(limits, most);
         }
-        smaller_limits(limits, self.aim.saturating_add(most.saturating_sub(self.aim) / 2))
+        smaller_limits(
+            limits,
+            self.aim.saturating_add(most.saturating_sub(self.aim) / 2),
+        )
     }
 
     // Whether a cover with so many columns may be kept, beside those that were.

@@ -25,3 +25,6 @@ mod tree;
 pub use node::Node;
 pub use nodes::Nodes;
 pub use tree::{Ended, Phase, Tree};
+
+#[cfg(test)]
+mod tests;

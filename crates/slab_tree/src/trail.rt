@@ -95,12 +95,7 @@ impl Trail {
     }
 
     // Decides yes, where the question is open.
-    fn decide(
-        &mut self,
-        mill: &Mill,
-        decisions: &mut Decisions,
-        ask: Ask,
-    ) -> Result<(), AllocError>
+    fn decide(&mut self, mill: &Mill, decisions: &mut Decisions, ask: Ask) -> Result<(), AllocError>
         requires { HasExtentOf mill.now decisions.old }
         ensures { HasExtentOf mill.now decisions.new }
     {

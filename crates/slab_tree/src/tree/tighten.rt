@@ -2,7 +2,7 @@
 
 ghost use Rattle.std.specs.Prelude.{◌≡◌, ◌≤◌, ◌∷◌, [], IfOk, OnOk, OnErr, IsTrue, length};
 ghost use Rattle.mill_model.specs.Decisions.{IsAskAmong};
-ghost use Rattle.slab_node.specs.Tallies.{AreNoLess, HaveCauses};
+ghost use Rattle.slab_relax.specs.Tallies.{AreNoLess, HaveCauses};
 ghost use Rattle.slab_node.specs.Turns.{IsUndecided};
 ghost use Rattle.slab_tree.specs.Marking.{is_bare};
 ghost use Rattle.slab_tree.specs.Rewriting.{StillShows, IsRewriting, MovesOn, HasRoom, IsTallied, AreKept, IsNoted};

@@ -1,4 +1,4 @@
-use Rattle.std.proofs.Common.{◌≡◌, ◌≤◌, length, slice_index}
+use Rattle.std.proofs.Common.{◌≤◌, length, slice_index}
 use Rattle.price_check.specs.Chains.{IsChainedFrom}
 use Rattle.price_check.proofs.links.link.Given as goal
 

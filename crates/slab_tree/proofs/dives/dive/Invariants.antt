@@ -1,5 +1,5 @@
 use Rattle.std.proofs.Common.{◌≡◌}
-use Rattle.slab_node.specs.Tallies.{AreNoLess}
+use Rattle.slab_relax.specs.Tallies.{AreNoLess}
 use Rattle.slab_tree.specs.Trails.{HasExtentOf}
 use Rattle.slab_tree.proofs.dives.dive.Given as goal
 

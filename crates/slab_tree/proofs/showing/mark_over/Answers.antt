@@ -4,7 +4,7 @@ use Rattle.std.proofs.lemmas.Int.{ints}
 use Rattle.mill_model.specs.Shares.{Shown, IsShown}
 use Rattle.slab_frac.specs.Fraction.{Fraction}
 use Rattle.slab_frac.specs.Scaled.{IsCommonForm}
-use Rattle.slab_node.specs.PoolCovers.{multipliers}
+use Rattle.slab_relax.specs.PoolCovers.{multipliers}
 use Rattle.slab_tree.specs.Showing.{shares_of}
 use Rattle.slab_tree.proofs.ShownCovers.{shows}
 use Rattle.slab_tree.proofs.showing.mark_over.Goals as goal

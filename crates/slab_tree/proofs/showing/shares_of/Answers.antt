@@ -6,13 +6,13 @@ use Rattle.mill_model.specs.Columns.{Column}
 use Rattle.mill_model.specs.Shares.{Share}
 use Rattle.slab_columns.specs.declared.column.ColId.{ColId}
 use Rattle.slab_frac.specs.Fraction.{Fraction}
-use Rattle.slab_node.specs.PoolCovers.{Cover, column_at}
+use Rattle.slab_relax.specs.PoolCovers.{Parts, column_at}
 use Rattle.slab_tree.specs.Showing.{share_of, shares_of}
 use Rattle.slab_tree.proofs.ShownCovers.{shares_of-push}
 use Rattle.slab_tree.proofs.showing.shares_of.Goals as goal
 
 -- one column more
-one_more : (columns : List Column) (parts : Cover) (times : List ℤ) (i : ℕ) (part : ColId × Fraction) (shares new : List Share) → i < length parts → length parts ≡ length times → part ≡ get_or parts i part
+one_more : (columns : List Column) (parts : Parts) (times : List ℤ) (i : ℕ) (part : ColId × Fraction) (shares new : List Share) → i < length parts → length parts ≡ length times → part ≡ get_or parts i part
     → shares ≡ shares_of columns (take i parts) (take i times) → new ≡ shares ++ share_of (column_at columns part.0) (get_or times i (pos 0)) → new ≡ shares_of columns (take (i + 1) parts) (take (i + 1) times)
 one_more columns parts times i part shares new lt same at inv add =
     let e : take (i + 1) parts ≡ take i parts ++ part ∷ [] = take_more parts i part lt ∙ ap (λ x. take i parts ++ x ∷ []) (sym at) in

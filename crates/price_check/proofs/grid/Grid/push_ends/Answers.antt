@@ -2,7 +2,7 @@ use Rattle.std.proofs.Common.{◌≡◌, ◌*◌, ◌^◌, ◌<◌, ◌≤◌, p
 use Rattle.std.specs.Prelude.{unsigned_abs}
 use Rattle.std.specs.Int.{w128}
 use Rattle.std.proofs.lemmas.Int.{ints}
-use Rattle.std.proofs.lemmas.List.{get_or_default, length_push}
+use Rattle.std.proofs.lemmas.List.{length_push}
 use Rattle.pricing_laws.specs.Bounds.{IsTable}
 use Rattle.pricing_laws.proofs.Tables.{first_more}
 use Rattle.price_check.proofs.grid.Grid.push_ends.Goals as goal

@@ -1,7 +1,6 @@
-use Rattle.std.proofs.Common.{rules, ◌≡◌, ◌⊎◌, ℕ, ◌+◌, ◌-◌, ◌^◌, ◌<◌, ◌≤◌, ℤ, pos, List, [], ◌∷◌, ◌++◌, length, get_or, ap, sym, subst, ◌∙◌, arith, to_z, of_z}
+use Rattle.std.proofs.Common.{rules, ◌≡◌, ◌⊎◌, ℕ, ◌+◌, ◌-◌, ◌^◌, ◌<◌, ◌≤◌, pos, List, [], ◌∷◌, ◌++◌, length, get_or, ap, sym, subst, ◌∙◌, arith, to_z, of_z}
 use Rattle.std.specs.Prelude.{◌-ℤ◌, unsigned_abs}
 use Rattle.std.specs.Int.{w128}
-use Rattle.std.specs.Vec.{vec_len}
 use Rattle.std.proofs.lemmas.Int.{ints}
 use Rattle.std.proofs.lemmas.List.{get_or_default}
 use Rattle.mill_model.specs.Columns.{Column}
@@ -30,7 +29,7 @@ returns-then-is_hopeless-clause-answer t c =
     let chosen = c.args.picks.now.chosen.items in
     let small : unsigned_abs c.args.gain ≤ 2 ^ 92 = taken_small h c.args.left chosen c.args.weight c.args.gain c.requires.taken in
     let bound : IsMostIn h c.args.left c.args.weight (pos 0 -ℤ c.args.gain) = most_weaker h.search.leaf.mill.now h.search.leaf.quote.now h.search.frame.now.groups (left_of h.queue.now.heads.items c.args.left) c.args.weight
-        (pos 0 -ℤ to_z w128 (of_z w128 c.args.gain)) (pos 0 -ℤ c.args.gain) (omega (arith, ints, small)) c.if-is_hopeless.ensures in
+    (pos 0 -ℤ to_z w128 (of_z w128 c.args.gain)) (pos 0 -ℤ c.args.gain) (omega (arith, ints, small)) c.if-is_hopeless.ensures in
     answer_none (problem_of h.search.leaf) c.args.picks.now.orders.items (IsChoiceIn h chosen c.args.left) (taken_bounded h c.args.left chosen c.args.weight c.args.gain c.requires.taken (pos 0) bound)
 
 pub walk-requires : goal.walk-requires

@@ -1,4 +1,4 @@
-use Rattle.std.proofs.Common.{◌≡◌, ℕ, ◌+◌, ◌*◌, ◌^◌, ◌<◌, ◌≤◌, ℤ, ◌+ℤ◌, List, [], ◌∷◌, ◌++◌, length, get_or, sym, subst, ap, ◌∙◌, arith, to_z, of_z}
+use Rattle.std.proofs.Common.{◌≡◌, ℕ, ◌+◌, ◌*◌, ◌^◌, ◌<◌, ◌≤◌, ◌+ℤ◌, length, get_or, sym, subst, ap, ◌∙◌, arith, to_z, of_z}
 use Rattle.std.specs.Prelude.{unsigned_abs}
 use Rattle.std.specs.Int.{w128}
 use Rattle.std.proofs.lemmas.Bool.{OnTrue_at}
@@ -35,12 +35,12 @@ is_apart-requires-clause-head c =
     let heads = h.queue.now.heads.items in
     let head : c.index-head.result.now ≡ get_or heads c.args.at 0 = c.index-head.ensures ∙ get_or_default heads c.args.at c.index-head.result.now 0 c.requires.at in
     let inside : get_or heads c.args.at 0 < length h.search.leaf.mill.now.orders = head_inside h c.args.at c.requires.at in
-    omega (arith, head, inside, h.search.leaf.asked.orders)
+    omega (arith, head, inside)
 
 pub is_apart-requires-clause-others : goal.is_apart-requires-clause-others
 is_apart-requires-clause-others c other e =
     let h = c.args.self.now in
-    omega (arith, taken_inside h (c.args.at + 1) c.args.chosen.now c.args.weight c.args.gain c.requires.taken other e, h.search.leaf.asked.orders)
+    omega (arith, taken_inside h (c.args.at + 1) c.args.chosen.now c.args.weight c.args.gain c.requires.taken other e)
 
 pub returns-then-is_apart-clause-none : goal.returns-then-is_apart-clause-none
 returns-then-is_apart-clause-none c most =

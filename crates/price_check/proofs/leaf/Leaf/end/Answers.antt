@@ -1,7 +1,7 @@
-use Rattle.std.proofs.Common.{◌≡◌, ℕ, ◌<◌, ◌≤ℤ◌, below_more, arith, to_z, of_z}
+use Rattle.std.proofs.Common.{◌≡◌, ◌≤ℤ◌, below_more, arith, to_z, of_z}
 use Rattle.std.specs.Int.{w128}
 use Rattle.std.proofs.lemmas.Int.{ints}
-use Rattle.mill_model.specs.declared.kind.Kind.TheVariants.{New, Old}
+use Rattle.mill_model.specs.declared.kind.Kind.TheVariants.{Old}
 use Rattle.price_check.specs.Leaves.{IsEndOf}
 use Rattle.price_check.proofs.leaf.Leaf.end.Goals as goal
 

@@ -1,4 +1,4 @@
-use Rattle.std.proofs.Common.{◌≡◌, ℕ, ◌<◌, ◌≤◌, pos, ◌≤ℤ◌, ℤ, List, length, get_or, below_more, sym, subst, ap, arith, to_z, of_z}
+use Rattle.std.proofs.Common.{◌≡◌, ◌<◌, pos, ◌≤ℤ◌, ℤ, List, length, get_or, below_more, ap, arith, to_z, of_z}
 use Rattle.std.specs.Int.{w64}
 use Rattle.std.proofs.lemmas.Int.{ints, int_min_is}
 use Rattle.mill_model.specs.Prices.{IsPrice}

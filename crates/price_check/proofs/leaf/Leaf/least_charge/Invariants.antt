@@ -1,4 +1,4 @@
-use Rattle.std.proofs.Common.{◌≡◌, ℕ, ◌<◌, ◌≤ℤ◌, pos, length, get_or}
+use Rattle.std.proofs.Common.{ℕ, ◌<◌, ◌≤ℤ◌, pos, get_or}
 use Rattle.mill_model.specs.Prices.{IsPrice}
 use Rattle.price_check.proofs.leaf.Leaf.least_charge.Given as goal
 

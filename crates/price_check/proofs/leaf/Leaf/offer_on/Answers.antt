@@ -1,6 +1,5 @@
-use Rattle.std.proofs.Common.{◌≡◌, ℕ, ◌≤◌, ℤ, pos, ◌≤ℤ◌, true, false, List, length, refl, sym, subst, ◌∙◌, arith, to_z, of_z}
+use Rattle.std.proofs.Common.{◌≡◌, pos, ◌≤ℤ◌, true, false, sym, subst, ◌∙◌, arith}
 use Rattle.std.specs.Prelude.{◌-ℤ◌, ◌<ℤ◌}
-use Rattle.std.specs.Int.{w128}
 use Rattle.std.proofs.lemmas.Int.{ints}
 use Rattle.std.proofs.lemmas.Bool.{both_ways}
 use Rattle.mill_model.specs.Columns.{Column, has_barred}

@@ -19,7 +19,7 @@ returns-then-is_some-clause-first c =
       subst HasSigns p_is (c.has_signs.ensures.0 c.if-not-has_signs.false),
       subst (λ (p : Prices). HasLimits c.args.limits p) p_is (c.has_limits.ensures.0 c.if-not-has_limits.false),
       subst (λ (p : Prices). IsWorth c.args.limits p) p_is (c.is_worth.ensures.0 c.if-not-is_worth.false),
-      λ none. found_exceeds c.args.mill.now c.self.inside.trail.decisions c.read.new.self c.search-self-inside.result c.search-self-inside.new.orders.items (sym c.is_some.ensures ∙ c.if-is_some.true) c.search-self-inside.ensures.some
+      λ none. found_exceeds c.args.mill.now c.self.inside.trail.decisions c.read.new.self c.search-self-inside.result c.search-self-inside.new.workspace.picks.orders.items (sym c.is_some.ensures ∙ c.if-is_some.true) c.search-self-inside.ensures.some
           (subst (λ (ds : List Decision). NoneExceeds c.args.mill.now ds c.read.new.self) (sym decisions) (subst (λ (p : Prices). NoneExceeds c.args.mill.now c.args.self.now.decisions p) (sym p_is) none)),
     )
 

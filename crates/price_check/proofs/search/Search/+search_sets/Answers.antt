@@ -1,4 +1,4 @@
-use Rattle.std.proofs.Common.{rules, ◌≡◌, ◌⊎◌, inl, inr, ℕ, ◌+◌, ◌-◌, ◌*◌, ◌^◌, ◌<◌, ◌≤◌, ℤ, pos, ◌+ℤ◌, List, [], ◌∷◌, ◌++◌, length, get_or, refl, ap, sym, subst, ◌∙◌, arith, to_z, of_z}
+use Rattle.std.proofs.Common.{rules, ◌≡◌, ◌⊎◌, inl, inr, ℕ, ◌-◌, ◌^◌, ◌<◌, ◌≤◌, pos, ◌+ℤ◌, List, [], ◌∷◌, ◌++◌, length, get_or, ap, sym, subst, ◌∙◌, arith, to_z, of_z}
 use Rattle.std.specs.Prelude.{unsigned_abs}
 use Rattle.std.specs.Int.{w128}
 use Rattle.std.proofs.lemmas.Bool.{OnTrue_at}
@@ -93,8 +93,7 @@ search_sets-found-requires t c =
     let pushed : c.push_reserved.new.self.items ≡ taken ++ get_or ranking (c.args.rank - 1) 0 ∷ [] = c.push_reserved.ensures.items ∙ ap (λ (x : ℕ). taken ++ x ∷ []) colour in
     let more : AreTakenFrom s (c.args.rank - 1) c.push_reserved.new.self.items (to_z w128 (of_z w128 (to_z w128 (of_z w128 c.args.worth) +ℤ to_z w128 (of_z w128 c.index.result.now)))) =
     subst (λ (xs : List ℕ). AreTakenFrom s (c.args.rank - 1) xs (to_z w128 (of_z w128 (to_z w128 (of_z w128 c.args.worth) +ℤ to_z w128 (of_z w128 c.index.result.now))))) (sym pushed)
-    (subst (AreTakenFrom s (c.args.rank - 1) (taken ++ get_or ranking (c.args.rank - 1) 0 ∷ [])) (sym richer) (next_taken s c.args.rank taken c.args.worth c.if-rank-eq0.false c.requires.taken)) in
-    (
+    (subst (AreTakenFrom s (c.args.rank - 1) (taken ++ get_or ranking (c.args.rank - 1) 0 ∷ [])) (sym richer) (next_taken s c.args.rank taken c.args.worth c.if-rank-eq0.false c.requires.taken)) in (
       search rules,
       (
         omega (arith, c.requires.rank),
@@ -115,8 +114,7 @@ search_sets-requires t c =
     let small : unsigned_abs c.args.worth ≤ 2 ^ 97 = taken_worth_small s c.args.rank taken c.args.worth few c.requires.taken in
     let back : to_z w128 (of_z w128 c.args.worth) ≡ c.args.worth = omega (arith, ints, small) in
     let kept = none_at c.search_sets-found.result _ (sym c.is_some.ensures ∙ c.if-is_some.false) c.search_sets-found.ensures.colours in
-    let same : c.pop.new.self.items ≡ taken = popped taken c.search_sets-found.new.space.colours.items c.pop.new.self.items c.index-colour.result.now _ (kept ∙ c.push_reserved.ensures.items) c.search_sets-found.new.space.colours.ok.0 c.pop.ensures.rest in
-    (
+    let same : c.pop.new.self.items ≡ taken = popped taken c.search_sets-found.new.space.colours.items c.pop.new.self.items c.index-colour.result.now _ (kept ∙ c.push_reserved.ensures.items) c.search_sets-found.new.space.colours.ok.0 c.pop.ensures.rest in (
       search rules,
       (
         omega (arith, c.requires.rank),

@@ -1,4 +1,4 @@
-use Rattle.std.proofs.Common.{◌≡◌, ℕ, ◌*◌, ◌^◌, ◌≤◌, ℤ, pos, ◌+ℤ◌, ◌*ℤ◌, ◌≤ℤ◌, true, List, ◌∙◌, arith, to_z, of_z}
+use Rattle.std.proofs.Common.{◌≡◌, ℕ, ◌*◌, ◌^◌, ◌≤◌, ℤ, pos, ◌+ℤ◌, ◌*ℤ◌, ◌≤ℤ◌, true, arith, to_z, of_z}
 use Rattle.std.specs.Prelude.{◌-ℤ◌, unsigned_abs}
 use Rattle.std.specs.Int.{w128}
 use lib.Signed.{le_z}
@@ -9,7 +9,7 @@ use Rattle.pricing_laws.proofs.Numbers.{le_true}
 use Rattle.pricing_laws.specs.Problems.{ExceedAtMost}
 use Rattle.pricing_laws.proofs.Problems.{exceed_weaker}
 use Rattle.pricing_laws.proofs.Worths.{set_bounded}
-use Rattle.price_check.specs.Searches.{AreTakenFrom, IsOfSetIn}
+use Rattle.price_check.specs.Searches.{IsOfSetIn}
 use Rattle.price_check.specs.Leaves.{problem_of}
 use Rattle.price_check.proofs.search.Search.is_hopeless.Goals as goal
 
@@ -47,4 +47,4 @@ returns c taken from =
     let bound : ExceedAtMost q ((c.args.worth +ℤ pos left *ℤ top) -ℤ floor) (IsOfSetIn s taken c.args.rank left) =
     set_bounded q s.frame.now.groups s.framed.groups s.frame.now.worths.items s.framed.worths floor s.framed.floor s.leaf.asked.sign s.frame.now.ranking.items c.args.rank left taken c.args.worth top from c.top.ensures.sign c.top.ensures.most in
     OnTrue_from _ _ (λ e. exceed_weaker q ((c.args.worth +ℤ pos left *ℤ top) -ℤ floor) (pos 0) (IsOfSetIn s taken c.args.rank left) (IsOfSetIn s taken c.args.rank left)
-        (low c.args.worth (to_z w128 (of_z w128 (to_z w128 (of_z w128 c.from.result) *ℤ to_z w128 (of_z w128 top)))) (pos left *ℤ top) floor back few c.requires.small s.framed.small e) (λ d allowed set. set) bound)
+    (low c.args.worth (to_z w128 (of_z w128 (to_z w128 (of_z w128 c.from.result) *ℤ to_z w128 (of_z w128 top)))) (pos left *ℤ top) floor back few c.requires.small s.framed.small e) (λ d allowed set. set) bound)

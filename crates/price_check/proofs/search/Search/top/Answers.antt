@@ -1,13 +1,10 @@
-use Rattle.std.proofs.Common.{◌≡◌, ℕ, ◌+◌, ◌-◌, ◌*◌, ◌^◌, ◌<◌, ◌≤◌, ℤ, pos, ◌≤ℤ◌, true, length, get_or, sym, subst, ap, ◌∙◌, arith, to_z, of_z}
-use Rattle.std.specs.Prelude.{unsigned_abs}
+use Rattle.std.proofs.Common.{◌≡◌, ℕ, ◌+◌, ◌-◌, ◌<◌, pos, true, length, get_or, subst, ap, ◌∙◌, arith, to_z, of_z}
 use Rattle.std.specs.Int.{w128}
 use Rattle.std.proofs.lemmas.Int.{ints}
 use Rattle.std.proofs.lemmas.List.{get_or_default}
-use Rattle.mill_model.specs.Mill.{IsBetween}
 use Rattle.mill_model.specs.Columns.{has}
 use Rattle.pricing_laws.specs.Parts.{left_of}
 use Rattle.pricing_laws.specs.Worths.{worth_of}
-use Rattle.pricing_laws.proofs.Parts.{has_at}
 use Rattle.pricing_laws.proofs.Worths.{top_of}
 use Rattle.price_check.proofs.Ranks.{rank_inside, worth_small}
 use Rattle.price_check.proofs.search.Search.top.Goals as goal

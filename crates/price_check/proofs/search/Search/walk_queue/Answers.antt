@@ -1,5 +1,4 @@
-use Rattle.std.proofs.Common.{◌≡◌, ℕ, List, [], length, sym, subst, ◌∙◌}
-use Rattle.mill_model.specs.Columns.{Column}
+use Rattle.std.proofs.Common.{◌≡◌, ℕ, List, [], length, subst, ◌∙◌}
 use Rattle.pricing_laws.specs.Choices.{IsChoice}
 use Rattle.pricing_laws.specs.Colours.{AreOf}
 use Rattle.pricing_laws.specs.Parts.{left_of}

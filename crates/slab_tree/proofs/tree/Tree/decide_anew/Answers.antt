@@ -6,11 +6,11 @@ use Rattle.mill_model.specs.declared.mark.Mark.TheVariants.{Bare}
 use Rattle.mill_model.specs.Mill.{Mill}
 use Rattle.mill_model.specs.Decisions.{Decision}
 use Rattle.mill_model.specs.Prices.{Refutes}
-use Rattle.slab_node.specs.declared.tally.Tally.{Tally}
+use Rattle.slab_relax.specs.declared.tally.Tally.{Tally}
 use Rattle.slab_node.specs.declared.turned.Turned.{Turned}
 use Rattle.slab_node.specs.declared.turned.Turned.TheVariants.{Refuted, InBox, Bare as BareTurn}
-use Rattle.slab_node.specs.PoolCovers.{IsPoolCover}
-use Rattle.slab_node.specs.Tallies.{HasCause}
+use Rattle.slab_relax.specs.PoolCovers.{IsPoolCover}
+use Rattle.slab_relax.specs.Tallies.{HasCause}
 use Rattle.slab_node.specs.Turns.{IsTurn, IsInBox, IsOpenAsk, IfSpread}
 use Rattle.slab_tree.specs.declared.node.Node.TheVariants.{Branched}
 use Rattle.slab_tree.specs.Marking.{HoldsCover, ShowsCoverUnlessBare, is_bare}

@@ -1,6 +1,6 @@
 use Rattle.std.proofs.Common.{◌≡◌, ◌≤◌, []}
 use Rattle.mill_model.specs.Plain.{IsPlainlyRefuted}
-use Rattle.slab_node.specs.Tallies.{AreNoLess, HaveCauses}
+use Rattle.slab_relax.specs.Tallies.{AreNoLess, HaveCauses}
 use Rattle.slab_tree.specs.Asking.{extent_of}
 use Rattle.slab_tree.specs.Counts.{AreRaised}
 use Rattle.slab_tree.specs.Searches.{IsRunning, limits_of, bare_count}

@@ -2,7 +2,7 @@ use Rattle.std.proofs.Common.{◌≡◌, ◌∙◌, ℕ, List, [], sym, subst, a
 use Rattle.std.proofs.lemmas.Result.{IfOk-weaker}
 use Rattle.mill_model.specs.declared.limits.Limits.{Limits}
 use Rattle.mill_model.specs.Plain.{IsPlainlyRefuted}
-use Rattle.slab_node.specs.Tallies.{HaveCauses}
+use Rattle.slab_relax.specs.Tallies.{HaveCauses}
 use Rattle.slab_tree.specs.declared.node.Node.{Node}
 use Rattle.slab_tree.specs.Searches.{IsEnded, bare_count}
 use Rattle.slab_tree.specs.Stepping.{HasRoot}

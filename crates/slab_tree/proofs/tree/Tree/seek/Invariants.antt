@@ -1,5 +1,5 @@
 use Rattle.std.proofs.Common.{◌≡◌}
-use Rattle.slab_node.specs.Tallies.{AreNoLess}
+use Rattle.slab_relax.specs.Tallies.{AreNoLess}
 use Rattle.slab_tree.specs.Stepping.{IsWorkplace}
 use Rattle.slab_tree.proofs.tree.Tree.seek.Given as goal
 

@@ -1,5 +1,7 @@
 use Rattle.std.proofs.Common.{◌≡◌, ℕ, ◌+◌, Bool, true, false, List, refl, sym, ap, subst, ◌∙◌, arith, cond}
-use Rattle.std.specs.Prelude.{IfOk, OnErr, Result, Ok, Err}
+use Rattle.std.specs.Prelude.{IfOk, IfSome, OnErr, Option, Result, Ok, Err}
+use Rattle.mill_model.specs.Plans.{Plan}
+use Rattle.slab_tree.specs.FoundPlans.{IsFoundPlan}
 use Rattle.std.specs.declared.alloc.AllocError.{AllocError}
 use Rattle.std.proofs.lemmas.Result.{IfOk-weaker}
 use Rattle.mill_model.specs.declared.ask.Ask.{Ask}
@@ -14,3 +16,37 @@ use Rattle.slab_tree.proofs.Gains.{branched_bares, same_counts, split_counts}
 use Rattle.slab_tree.proofs.Moves.{split_step, lower_step}
 use Rattle.slab_tree.proofs.Standing.{chosen_open}
 use Rattle.slab_tree.proofs.tree.Tree.split_next.Goals as goal
+
+-- ---- a plan was found
+
+pub returns-in-Some-clause-ok : goal.returns-in-Some-clause-ok
+returns-in-Some-clause-ok c =
+    let found : IsFoundPlan c.args.mill.now (limits_of c.args.self.now) c.in-Some.plan = subst (λ (p : Option Plan). IfSome p (IsFoundPlan c.args.mill.now (limits_of c.args.self.now))) c.in-Some.is c.in_ok-plan.ensures.found in
+    lower_step c.args.mill.now c.args.nodes.now.limit c.args.self.now c.lower.new.self c.requires.tree c.requires.room c.in-Some.plan found c.lower.ensures.small c.lower.ensures.tree
+
+-- ---- the split
+
+pub returns-in-None-clause-ok : goal.returns-in-None-clause-ok
+returns-in-None-clause-ok c =
+    let asks : IsOpenAsk c.args.mill.now c.args.self.now.path c.in_ok-ask.ask =
+    chosen_open c.args.mill.now c.args.decisions.now c.args.self.now.path c.args.first c.in_ok-ask.ask c.requires.place.orders c.requires.place.yard c.requires.place.list c.requires.first c.in_ok-ask.ensures.ask in
+    let holds : HoldsCover c.args.mill.now (limits_of c.args.self.now) c.in_ok-mark.mark c.args.self.now.path = c.in_ok-mark.ensures.holds c.args.mill.now (limits_of c.args.self.now) c.args.self.now.path c.requires.cover in
+    IfOk-weaker c.go_down.result (IsSplitUnder c.in_ok-ask.ask c.in_ok-mark.mark c.args.nodes.now.limit c.args.self.now c.go_down.new.self) (IsStepped c.args.mill.now c.args.nodes.now.limit c.args.self.now c.go_down.new.self)
+    (split_step c.args.mill.now c.args.nodes.now.limit c.args.self.now c.go_down.new.self c.requires.tree c.requires.room c.in_ok-ask.ask c.in_ok-mark.mark asks holds) c.go_down.ensures.ok
+
+-- a split that isn't bare adds no bare one
+no_more_bares : (old new : Search) (ask : Ask) (mark : Mark) (limit : ℕ) (r : Result Bool AllocError) → is_bare mark ≡ false → IfOk r (IsSplitUnder ask mark limit old new) → OnErr r (new ≡ old) → bare_count new.nodes ≡ bare_count old.nodes
+no_more_bares old new ask mark limit (Err e) covered h same = ap (λ (t : Search). bare_count t.nodes) same
+no_more_bares old new ask mark limit (Ok false) covered h same = ap (λ (t : Search). bare_count t.nodes) h.1
+no_more_bares old new ask mark limit (Ok true) covered h same =
+    branched_bares ask mark limit old new h ∙ ap (λ (b : Bool). bare_count old.nodes + cond b 1 0) covered ∙ none (bare_count old.nodes)
+  where
+    none : (n : ℕ) → n + 0 ≡ n
+    none n = omega arith
+
+pub returns-in-None-clause-bares : goal.returns-in-None-clause-bares
+returns-in-None-clause-bares c = no_more_bares c.args.self.now c.go_down.new.self c.in_ok-ask.ask c.in_ok-mark.mark c.args.nodes.now.limit c.go_down.result c.in_ok-mark.ensures.covered c.go_down.ensures.ok c.go_down.ensures.err
+
+pub returns-in-None-clause-counts : goal.returns-in-None-clause-counts
+returns-in-None-clause-counts c =
+    split_counts c.args.nodes.now c.opened-counted.ensures.last c.opened-counted.ensures.bare c.args.self.now c.go_down.new.self c.go_down.result c.go_down.new.nodes c.in_ok-ask.ask c.in_ok-mark.mark c.args.nodes.now.limit c.go_down.ensures.ok c.go_down.ensures.err c.go_down.ensures.counted c.go_down.ensures.uncounted

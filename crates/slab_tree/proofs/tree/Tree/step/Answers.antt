@@ -9,12 +9,12 @@ use Rattle.mill_model.specs.Paths.{next_branch}
 use Rattle.mill_model.specs.Prices.{Refutes}
 use Rattle.mill_model.specs.Decisions.{Decision}
 use Rattle.slab_decide.specs.Decided.{Decisions}
-use Rattle.slab_node.specs.declared.tally.Tally.{Tally}
+use Rattle.slab_relax.specs.declared.tally.Tally.{Tally}
 use Rattle.slab_node.specs.declared.turned.Turned.{Turned}
 use Rattle.slab_node.specs.declared.turned.Turned.TheVariants.{Refuted, InBox, Spread, Bare as BareTurn}
-use Rattle.slab_node.specs.Tallies.{HasCause}
+use Rattle.slab_relax.specs.Tallies.{HasCause}
 use Rattle.slab_node.specs.Turns.{IsTurn, HasCover, IsOpenAsk, IsInBox, IfSpread}
-use Rattle.slab_node.specs.PoolCovers.{IsPoolCover}
+use Rattle.slab_relax.specs.PoolCovers.{IsPoolCover}
 use Rattle.slab_tree.specs.Searches.{limits_of, opening_of, Search, bare_count}
 use Rattle.slab_tree.specs.Standing.{IsOpenPath}
 use Rattle.slab_tree.specs.Stepping.{IsStepped, IsSplitUnder, IsClosed, IsClosedAtOnce}

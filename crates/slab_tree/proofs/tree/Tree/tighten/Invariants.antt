@@ -1,5 +1,5 @@
 use Rattle.std.proofs.Common.{◌≡◌, ◌+◌, ◌≤◌, [], length}
-use Rattle.slab_node.specs.Tallies.{AreNoLess, HaveCauses}
+use Rattle.slab_relax.specs.Tallies.{AreNoLess, HaveCauses}
 use Rattle.slab_tree.specs.declared.tree.Phase.TheVariants.{Running}
 use Rattle.slab_tree.specs.Rewriting.{IsSameTree, IsWalk, AreKept, HasRoom, IsTallied}
 use Rattle.slab_tree.specs.Searches.{HasLimitsBelow, bare_count}

@@ -1,0 +1,17 @@
+pub mod Steps
+pub mod Walks
+pub mod Asks
+pub mod LeafLines
+pub mod Shares
+pub mod TreeLines
+pub mod Trees
+pub mod OpenLines
+pub mod Slabs
+pub mod SlabLines
+pub mod PlanLines
+pub mod SumLines
+pub mod Wholes
+pub mod FirstBad
+pub mod Verdicts
+pub mod Standing
+pub mod Room

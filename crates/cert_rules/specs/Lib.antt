@@ -1,0 +1,13 @@
+pub mod Rules
+pub mod Numbers
+pub mod States
+pub mod Questions
+pub mod Leaves
+pub mod Slabs
+pub mod Spreads
+pub mod Turns
+pub mod Reading
+pub mod Verdicts
+pub mod Laws
+pub mod Stands
+pub mod Room

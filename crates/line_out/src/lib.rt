@@ -1,0 +1,12 @@
+//! Text that goes out line by line through a fixed buffer, to standard output or into a file, without memory.
+//!
+//! Read `end` first (where bytes go), then `line_out` (the buffer), `numbers`, and `lines`, the lines of a point that the
+//! report and the certificate share.
+#![tactic(auto)]
+
+mod end;
+mod line_out;
+mod numbers;
+
+pub use end::{End, Said, Written};
+pub use line_out::LineOut;

@@ -1,0 +1,8 @@
+use Rattle.std.proofs.Common.{take}
+use Rattle.std.specs.List.{flat_map}
+use Rattle.line_out.specs.Puts.{Puts}
+use Rattle.mill_report.specs.Reports.{point_text}
+use Rattle.mill_report.proofs.report.put_points.Given as goal
+
+abbrev pub invariant-loop-point : goal.invariant-loop-point
+invariant-loop-point g l = Puts g.E.End.sends (flat_map point_text (take l.point-index l.points)) (l.initial.out, g.E.End.seen l.initial.desk) (l.out, g.E.End.seen l.desk)
