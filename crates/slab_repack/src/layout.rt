@@ -130,9 +130,7 @@ impl Layout {
     }
 
     fn are_free(&self, orders: &[u16]) -> bool {
-        orders
-            .iter()
-            .all(|order| self.place.get(usize::from(*order)).copied() == Some(NOWHERE))
+        orders.iter().all(|order| self.place.get(usize::from(*order)).copied() == Some(NOWHERE))
     }
 
     // Places each order that lies nowhere, the heaviest first. It answers whether each found a place.
@@ -215,13 +213,13 @@ impl Layout {
     pub(crate) fn drop_slabs(&mut self, released: &[usize]) {
         self.moved.clear();
         self.taken = 0;
-        let mut kept = 0;
+        let mut kept: usize = 0;
         for slab in 0..self.slabs.len() {
             if released.contains(&slab) {
                 let _ = self.moved.push(NOWHERE);
             } else {
                 self.move_slab(slab, kept);
-                kept += 1;
+                kept = kept.saturating_add(1);
             }
         }
         self.slabs.truncate(kept);

@@ -45,7 +45,7 @@ impl Release {
                 return;
             }
             let slab = random.place(layout.slabs.len());
-            if !self.has(slab) && (self.shares_colour(layout, slab) || random.below(8) == 0) {
+            if !self.has(slab) && (self.shares_colour(layout, slab) || random.below(30) == 0) {
                 self.add(layout, slab);
             }
         }
@@ -67,9 +67,10 @@ impl Release {
         let Some(slab) = layout.slabs.get(slab) else {
             return false;
         };
-        self.slabs
-            .iter()
-            .any(|other| layout.slabs.get(*other).is_some_and(|other| other.shares_colour(slab)))
+        self.slabs.iter().any(|other| layout
+            .slabs
+            .get(*other)
+            .is_some_and(|other| other.shares_colour(slab)))
     }
 }
 
@@ -77,8 +78,12 @@ impl Release {
 fn lossy_slab(facts: &Facts, layout: &Layout, random: &mut Random) -> usize {
     let count = layout.slabs.len();
     let mut slab = random.place(count);
-    for _ in 0..4 {
-        if layout.slabs.get(slab).is_some_and(|there| there.loss(facts) > 0) {
+    for _ in 0..10 {
+        if layout
+            .slabs
+            .get(slab)
+            .is_some_and(|there| there.loss(facts) > 0)
+        {
             return slab;
         }
         slab = random.place(count);

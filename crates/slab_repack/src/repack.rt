@@ -1,7 +1,7 @@
 //! The search.
 
 ghost use Rattle.std.specs.Prelude.{◌≡◌, IfOk, IfSome};
-ghost use Rattle.slab_repack.specs.FoundPlans.{IsFoundPlan};
+ghost use Rattle.slab_repack.specs.FoundPlans.{IsFoundPlan, IsPolished};
 
 use crate::facts::Facts;
 use crate::judging::judged;
@@ -9,6 +9,7 @@ use crate::layout::Layout;
 use crate::packing::Packing;
 use crate::random::Random;
 use crate::release::Release;
+use crate::size_sums::SizeSums;
 use loss_table::LossTable;
 use mill_model::{Kind, Limits, Mill, Plan};
 use std::alloc::{AllocError, Global};
@@ -20,6 +21,7 @@ mod renewal;
 #[derive(Drop)]
 pub struct Repack {
     facts: Facts,
+    size_sums: SizeSums,
     layout: Layout,
     best: Layout,
     release: Release,
@@ -43,8 +45,11 @@ impl Repack {
     /// only error is want of memory.
     pub fn new(alloc: Global, mill: &Mill, table: &LossTable) -> Result<Repack, AllocError> {
         let orders = mill.orders().len();
+        let facts = Facts::new(alloc, mill, table)?;
+        let size_sums = SizeSums::new(alloc, mill, facts.greatest)?;
         Ok(Repack {
-            facts: Facts::new(alloc, mill, table)?,
+            facts,
+            size_sums,
             layout: Layout::new(alloc, orders)?,
             best: Layout::new(alloc, orders)?,
             release: Release::new(alloc)?,
@@ -75,8 +80,9 @@ impl Repack {
         self.layout.take(&self.facts, kind, orders)
     }
 
-    /// Searches from where it stands for so many steps, or until it has a plan of no more than `enough` loss. It answers the plan
-    /// of least loss that it found within the limits, legal and in order, or none. Its only error is want of memory.
+    /// Searches from where it stands for so many steps, or until it has a plan of no more than `enough` loss, or of the least loss
+    /// that sums of sizes allow. It answers the plan of least loss that it found within the limits, legal and in order, or none.
+    /// Its only error is want of memory.
     pub fn search(
         &mut self,
         alloc: Global,
@@ -87,7 +93,7 @@ impl Repack {
     ) -> Result<Option<Plan>, AllocError>
         ensures found { IfOk result (λ found. IfSome found (IsFoundPlan mill.now limits)) }
     {
-        let Some(aim) = aim_of(limits, enough) else {
+        let Some(aim) = self.aim(limits, enough) else {
             return Ok(None);
         };
         if !self.layout.complete(&self.facts) {
@@ -101,6 +107,37 @@ impl Repack {
         Ok(judged(mill, plan, limits))
     }
 
+    /// Searches for a plan of no more loss than this one, with fewer new slabs. Its only error is want of memory.
+    pub fn polish(
+        &mut self,
+        alloc: Global,
+        mill: &Mill,
+        plan: &Plan,
+        work: u64,
+    ) -> Result<Option<Plan>, AllocError>
+        ensures found { IfOk result (λ found. IfSome found (IsPolished mill.now plan.now)) }
+    {
+        let Ok(sums) = plan.judge(mill) else {
+            return Ok(None);
+        };
+        let limits = Limits {
+            loss: Some(i64::from(sums.loss)),
+            count: Some(i64::from(sums.count) - 1),
+        };
+        self.seed(plan);
+        self.search(alloc, mill, limits, sums.loss, work)
+    }
+
+    // What a search is after, unless a limit is below 0.
+    fn aim(&self, limits: Limits, enough: u32) -> Option<Aim> {
+        let count = most_of(limits.count)?.min(u64::from(u32::MAX)) as usize;
+        Some(Aim {
+            count,
+            loss: most_of(limits.loss)?,
+            enough: u64::from(enough).max(self.size_sums.least_loss(count)),
+        })
+    }
+
     // Renews parts of the layout for so many steps. It answers whether there is a best plan.
     fn improve(&mut self, aim: Aim, work: u64) -> bool {
         let mut aim = aim;
@@ -110,7 +147,7 @@ impl Repack {
             if done >= work || (found && self.best.loss <= aim.enough) {
                 break;
             }
-            done = done.saturating_add(self.renew(aim.count));
+            done = done.saturating_add(self.renew(aim.count, work.saturating_sub(done)));
             found |= self.note(&mut aim);
         }
         self.steps = self.steps.saturating_add(done);
@@ -126,15 +163,6 @@ impl Repack {
         self.best.copy_from(&self.layout);
         true
     }
-}
-
-// What a search is after, unless a limit is below 0.
-fn aim_of(limits: Limits, enough: u32) -> Option<Aim> {
-    Some(Aim {
-        count: most_of(limits.count)?.min(u64::from(u32::MAX)) as usize,
-        loss: most_of(limits.loss)?,
-        enough: u64::from(enough),
-    })
 }
 
 // A limit as a number, unless it is below 0.

@@ -11,14 +11,14 @@ const MOST_SURPLUS: usize = 3;
 const OVERHEAD: u64 = 4;
 
 impl Repack {
-    // Releases some slabs and packs their orders anew. It answers how many steps that took.
-    pub(crate) fn renew(&mut self, count: usize) -> u64 {
+    // Releases some slabs and packs their orders anew, in at most so many steps. It answers how many that took.
+    pub(crate) fn renew(&mut self, count: usize, most: u64) -> u64 {
         let too_many = self.layout.news > count;
         let slabs = self.draw_slabs();
         self.release.choose(&self.facts, &self.layout, &mut self.random, slabs, too_many);
         self.gather_items();
         self.gather_surplus();
-        let task = self.task(count);
+        let task = self.task(count, most.min(u64::from(u32::MAX)) as u32);
         let steps = self.packing.pack(&self.facts, &mut self.random, task);
         if self.packing.is_found {
             self.replace();
@@ -71,7 +71,8 @@ impl Repack {
     fn draw_surplus(&mut self) {
         let yard = &mut self.packing.yard;
         for place in 0..MOST_SURPLUS {
-            let other = place + self.random.place(yard.len().saturating_sub(place));
+            let rest = yard.len().saturating_sub(place);
+            let other = place.saturating_add(self.random.place(rest));
             if place < yard.len() && other < yard.len() {
                 yard.swap(place, other);
             }
@@ -79,22 +80,19 @@ impl Repack {
         yard.truncate(MOST_SURPLUS);
     }
 
-    // What the packing of the released slabs is to be.
-    fn task(&mut self, count: usize) -> Task {
-        let news = self.layout.news;
-        let penalty = u64::from(self.facts.greatest).saturating_mul(2);
+    // What the packing of the released slabs is to be. While there are too many new slabs, it may lose half a slab more.
+    fn task(&mut self, count: usize, most: u32) -> Task {
+        let fewer = self.layout.news > count;
         let (released, loss, squares) = self.sums_of_released();
-        let free_news = count.saturating_sub(news.saturating_sub(released));
-        let paid = released.saturating_sub(free_news) as u64;
         let (steps, listed, tried) = self.draw_effort();
+        let more_news = usize::from(self.layout.news < count);
+        let more_loss = if fewer { self.facts.greatest / 2 } else { 0 };
         Task {
-            news: if news < count { released.saturating_add(1) } else { released },
-            free_news,
-            penalty,
-            cost: loss.saturating_add(penalty.saturating_mul(paid)),
-            squares: squares.saturating_sub(self.draw_slack(news > count)),
-            by_squares: news > count,
-            steps,
+            news: released.saturating_add(more_news),
+            loss: loss.saturating_add(u64::from(more_loss)),
+            fewer,
+            squares: squares.saturating_sub(self.draw_slack()),
+            steps: steps.min(most),
             listed,
             tried,
         }
@@ -111,7 +109,7 @@ impl Repack {
                 if slab.surplus.is_none() {
                     let load = u64::from(slab.load);
                     news = news.saturating_add(1);
-                    squares = squares.saturating_add(load * load);
+                    squares = squares.saturating_add(load.saturating_mul(load));
                 }
             }
         }
@@ -121,18 +119,19 @@ impl Repack {
     // How many steps, columns listed and columns tried.
     fn draw_effort(&mut self) -> (u32, u32, usize) {
         match self.random.below(3) {
-            0 => (800, 200, MOST_TRIED),
-            1 => (3_000, 30, MOST_TRIED),
-            _ => (8_000, 60, 6),
+            0 => (300, 200, MOST_TRIED),
+            1 => (1_000, 30, MOST_TRIED),
+            _ => (3_000, 60, 6),
         }
     }
 
-    // By how much the squares may fall, a quarter of the time, while there are too many slabs.
-    fn draw_slack(&mut self, too_many: bool) -> u64 {
-        let square = u64::from(self.facts.greatest) * u64::from(self.facts.greatest);
+    // By how much the squares may fall: at all, a quarter of the time.
+    fn draw_slack(&mut self) -> u64 {
+        let greatest = u64::from(self.facts.greatest);
+        let square = greatest.saturating_mul(greatest);
         match self.random.below(16) {
-            0 if too_many => square / 2,
-            1..=3 if too_many => square / 8,
+            0 => square / 2,
+            1..=3 => square / 8,
             _ => 0,
         }
     }
@@ -141,7 +140,8 @@ impl Repack {
     fn replace(&mut self) {
         self.layout.drop_slabs(&self.release.slabs);
         for packed in &self.packing.found {
-            self.layout.add_slab(&self.facts, packed, &self.packing.items.list);
+            self.layout
+                .add_slab(&self.facts, packed, &self.packing.items.list);
         }
         self.layout.sum_up(&self.facts);
     }
