@@ -1,0 +1,67 @@
+//! Plans that are judged before they are answered.
+
+ghost use Rattle.std.specs.Prelude.{ℕ, ◌≡◌, ◌↔◌, ◌++◌, ◌∷◌, List, [], pos, Some, IfSome, IsTrue};
+ghost use Rattle.mill_model.specs.Limits.{AtMost, IsWithin};
+ghost use Rattle.slab_repack.specs.FoundPlans.{AreNumberedBelow, AreNumberedSoFar, IsFoundPlan};
+
+use mill_model::{Limits, Mill, Plan, Sums};
+
+/// The plan, where it is legal, in order and within the limits.
+pub fn judged(mill: &Mill, plan: Plan, limits: Limits) -> Option<Plan>
+    ensures found { IfSome result (IsFoundPlan mill.now limits) }
+    ensures same { IfSome result (λ found. found ≡ plan) }
+{
+    match plan.judge(mill) {
+        Ok(sums) => {
+            if is_within(sums, limits) && are_numbered(plan.place(), plan.kinds().len()) {
+                return Some(plan);
+            }
+            None
+        }
+        Err(_) => None,
+    }
+}
+
+fn is_within(sums: Sums, limits: Limits) -> bool
+    ensures { IsTrue result ↔ IsWithin sums limits }
+{
+    is_at_most(sums.loss, limits.loss) && is_at_most(u32::from(sums.count), limits.count)
+}
+
+fn is_at_most(number: u32, limit: Option<i64>) -> bool
+    ensures { IsTrue result ↔ AtMost (Some (pos number)) limit }
+{
+    match limit {
+        Some(limit) => i64::from(number) <= limit,
+        None => true,
+    }
+}
+
+// Whether so many slabs are numbered by their least order.
+#[tactic(auto, using(crate::proofs::Numbering::none_numbered, crate::proofs::Numbering::fewer_numbered))]
+fn are_numbered(place: &[u16], slabs: usize) -> bool
+    ensures { IsTrue result → AreNumberedBelow place.now slabs }
+{
+    let mut next = 0;
+    for slab in place {
+        match number_after(usize::from(*slab), next) {
+            Some(after) => next = after,
+            None => return false,
+        }
+    }
+    next >= slabs
+}
+
+// The next number after one more place, where that is of a slab with a number, or of the next one.
+#[tactic(auto, using(crate::proofs::Numbering::known_place, crate::proofs::Numbering::next_place))]
+fn number_after(slab: usize, next: usize) -> Option<usize>
+    ensures { IfSome result (λ after. (xs : List ℕ) → AreNumberedSoFar xs next → AreNumberedSoFar (xs ++ slab ∷ []) after) }
+{
+    if slab < next {
+        return Some(next);
+    }
+    if slab == next {
+        return next.checked_add(1);
+    }
+    None
+}
