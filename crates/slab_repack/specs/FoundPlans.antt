@@ -1,5 +1,5 @@
 -- Plans that a search may answer.
-use Rattle.std.specs.Prelude.{◌≡◌, ℕ, suc, ◌<◌, ◌≤◌, List, eqb, length}
+use Rattle.std.specs.Prelude.{◌≡◌, ℕ, suc, ◌<◌, ◌≤◌, List, eqb, length, slice_index}
 use Rattle.std.specs.List.{position_or_len}
 use Rattle.mill_model.specs.declared.limits.Limits.{Limits}
 use Rattle.mill_model.specs.Mill.{Mill}
@@ -22,6 +22,11 @@ pub record IsPolished (m : Mill) (p q : Plan) : Type 0 where
 -- the numbers below another have first places that rise
 abbrev pub AreNumberedBelow : List ℕ → ℕ → Type 0
 AreNumberedBelow place slabs = (k : ℕ) → suc k < slabs → position_or_len (λ x. eqb x k) place < position_or_len (λ x. eqb x (suc k)) place
+
+-- each slab has a place, and each place is one of the slabs
+pub record AreUsed (place : List ℕ) (slabs : ℕ) : Type 0 where
+  pub some : (k : ℕ) → k < slabs → position_or_len (λ x. eqb x k) place < length place
+  pub others : (o : ℕ) → o < length place → slice_index place o < slabs
 
 -- of the places so far: the numbers below `next` have places that rise, and no other has one
 pub record AreNumberedSoFar (xs : List ℕ) (next : ℕ) : Type 0 where
