@@ -7,20 +7,24 @@ ghost use Rattle.slab_repack.specs.FoundPlans.{AreNumberedBelow, AreNumberedSoFa
 use mill_model::{Limits, Mill, Plan, Sums};
 
 /// The plan, exactly where it is legal, in order and within the limits.
-#[tactic(auto, using(crate::proofs::Numbering::used_slabs))]
 pub fn judged(mill: &Mill, plan: Plan, limits: Limits) -> Option<Plan>
     ensures found { IfSome result (IsFoundPlan mill.now limits) }
     ensures same { IfSome result (λ found. found ≡ plan) }
     ensures whole { IsFoundPlan mill.now limits plan → IsSome result }
 {
+    if is_found(mill, &plan, limits) {
+        return Some(plan);
+    }
+    None
+}
+
+#[tactic(auto, using(crate::proofs::Numbering::used_slabs))]
+fn is_found(mill: &Mill, plan: &Plan, limits: Limits) -> bool
+    ensures { IsTrue result ↔ IsFoundPlan mill.now limits plan.now }
+{
     match plan.judge(mill) {
-        Ok(sums) => {
-            if is_within(sums, limits) && are_numbered(plan.place(), plan.kinds().len()) {
-                return Some(plan);
-            }
-            None
-        }
-        Err(_) => None,
+        Ok(sums) => is_within(sums, limits) && are_numbered(plan.place(), plan.kinds().len()),
+        Err(_) => false,
     }
 }
 
