@@ -17,10 +17,12 @@ const EARLY_STEPS: u64 = 125_000;
 
 // So many more may be done at the root of a tree, and so many more for each of its nodes.
 const FIRST_STEPS: u64 = 500_000;
+
 const NODE_STEPS: u64 = 5_000;
 
 // A search takes at least so many steps, and at most so many.
 const LEAST_STEPS: u64 = 20_000;
+
 const MOST_STEPS: u64 = 250_000;
 
 // A search for plans beside a tree, scheduled by its steps.
