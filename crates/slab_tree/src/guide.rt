@@ -18,7 +18,7 @@ use std::alloc::{AllocError, Global};
 use std::marker::Model;
 
 // The number of dives at the first split.
-const FIRST_DIVES: u32 = 4;
+const FIRST_DIVES: u32 = 3;
 
 // So many shares of covers are kept with the splits that one run makes, about 60 bytes each. A later cover is found anew where the
 // tree is tightened.
