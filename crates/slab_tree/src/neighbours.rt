@@ -15,14 +15,16 @@ use std::alloc::{AllocError, Global};
 // So many steps are done before the first turn of a run.
 const EARLY_STEPS: u64 = 125_000;
 
-// So many more may be done at the root of a tree, and so many more for each of its nodes.
+// So many more may be done at the root of a tree.
 const FIRST_STEPS: u64 = 500_000;
 
+// So many more may be done for each node of a tree.
 const NODE_STEPS: u64 = 5_000;
 
-// A search takes at least so many steps, and at most so many.
+// No search is begun for fewer steps.
 const LEAST_STEPS: u64 = 20_000;
 
+// A search takes at most so many steps.
 const MOST_STEPS: u64 = 250_000;
 
 // A search for plans beside a tree, scheduled by its steps.

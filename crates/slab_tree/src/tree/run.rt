@@ -152,6 +152,7 @@ impl Tree {
         ensures bare_end { HasBareEnd self.new → HasCause tally.old tally.new }
         ensures counts { AreRaisedBy nodes.old nodes.new self.old self.new }
     {
+        let _counted = nodes.opened();
         let _orders = mill.orders();
         match self.first_plan(alloc, mill, guide)? {
             Some(plan) => {

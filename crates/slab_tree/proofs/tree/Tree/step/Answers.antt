@@ -1,3 +1,4 @@
+use Rattle.std.proofs.Common.{subst}
 use Rattle.std.specs.Prelude.{IfSome, Option}
 use Rattle.mill_model.specs.Plans.{Plan}
 use Rattle.slab_repack.specs.FoundPlans.{IsFoundPlan}
@@ -16,4 +17,4 @@ returns-in-Some-clause-ok c =
 pub returns-in-Some-clause-plain : goal.returns-in-Some-clause-plain
 returns-in-Some-clause-plain c = λ refuted root.
     let found : IsFoundPlan c.args.mill.now (limits_of c.args.self.now) c.in-Some.plan = subst (λ (p : Option Plan). IfSome p (IsFoundPlan c.args.mill.now (limits_of c.args.self.now))) c.in-Some.is c.in_ok-plan.ensures.found in
-    absurd (none_within c.args.mill.now (limits_of c.args.self.now) c.in-Some.plan c.orders.ensures.limits refuted found.legal found.within)
+    absurd (none_within c.args.mill.now (limits_of c.args.self.now) c.in-Some.plan c.orders-orders.ensures.limits refuted found.legal found.within)
