@@ -36,8 +36,10 @@ struct Aim {
     // At most so many new slabs, and so much loss.
     count: usize,
     loss: u64,
-    // So little loss is enough.
+    // So little loss is enough: with that, fewer new slabs are sought.
     enough: u64,
+    // Sums of sizes allow no better plan.
+    is_over: bool,
 }
 
 impl Repack {
@@ -46,7 +48,7 @@ impl Repack {
     pub fn new(alloc: Global, mill: &Mill, table: &LossTable) -> Result<Repack, AllocError> {
         let orders = mill.orders().len();
         let facts = Facts::new(alloc, mill, table)?;
-        let size_sums = SizeSums::new(alloc, mill, facts.greatest)?;
+        let size_sums = SizeSums::new(alloc, mill, facts.room)?;
         Ok(Repack {
             facts,
             size_sums,
@@ -80,9 +82,9 @@ impl Repack {
         self.layout.take(&self.facts, kind, orders)
     }
 
-    /// Searches from where it stands for so many steps, or until it has a plan of no more than `enough` loss, or of the least loss
-    /// that sums of sizes allow. It answers the plan of least loss that it found within the limits, legal and in order, or none.
-    /// Its only error is want of memory.
+    /// Searches from where it stands for so many steps, or until sums of sizes allow no better plan. It answers the plan of least
+    /// loss that it found within the limits, legal and in order, or none. Once the loss is no more than `enough`, or the least that
+    /// sums of sizes allow, it looks for fewer new slabs. Its only error is want of memory.
     pub fn search(
         &mut self,
         alloc: Global,
@@ -128,13 +130,19 @@ impl Repack {
         self.search(alloc, mill, limits, sums.loss, work)
     }
 
-    // What a search is after, unless a limit is below 0.
+    // What a search is after, unless no plan is within the limits.
     fn aim(&self, limits: Limits, enough: u32) -> Option<Aim> {
         let count = most_of(limits.count)?.min(u64::from(u32::MAX)) as usize;
+        let loss = most_of(limits.loss)?;
+        let least = self.size_sums.least_loss(count)?;
+        if least > loss {
+            return None;
+        }
         Some(Aim {
             count,
-            loss: most_of(limits.loss)?,
-            enough: u64::from(enough).max(self.size_sums.least_loss(count)),
+            loss,
+            enough: u64::from(enough).max(least),
+            is_over: false,
         })
     }
 
@@ -144,7 +152,7 @@ impl Repack {
         let mut found = self.note(&mut aim);
         let mut done: u64 = 0;
         for _ in 0..work {
-            if done >= work || (found && self.best.loss <= aim.enough) {
+            if done >= work || aim.is_over {
                 break;
             }
             done = done.saturating_add(self.renew(aim.count, work.saturating_sub(done)));
@@ -154,14 +162,29 @@ impl Repack {
         found
     }
 
-    // Keeps the layout as the best plan, where it is within the limits, and asks for less from then on.
+    // Keeps the layout as the best plan, where it is within the limits, and asks for a better one from then on: for less loss, or
+    // for fewer new slabs where the loss is little enough.
     fn note(&mut self, aim: &mut Aim) -> bool {
         if self.layout.news > aim.count || self.layout.loss > aim.loss {
             return false;
         }
-        aim.loss = self.layout.loss.saturating_sub(1);
         self.best.copy_from(&self.layout);
+        if self.layout.loss > aim.enough {
+            aim.loss = self.layout.loss.saturating_sub(1);
+        } else {
+            aim.loss = self.layout.loss;
+            aim.is_over = self.layout.news == 0;
+            aim.count = self.layout.news.saturating_sub(1);
+        }
+        aim.is_over |= !self.is_allowed(aim.count, aim.loss);
         true
+    }
+
+    // Whether sums of sizes allow so few new slabs with so little loss.
+    fn is_allowed(&self, count: usize, loss: u64) -> bool {
+        self.size_sums
+            .least_loss(count)
+            .is_some_and(|least| least <= loss)
     }
 }
 

@@ -7,7 +7,7 @@ use std::alloc::{AllocError, Global};
 const NONE: u16 = u16::MAX;
 
 // Beyond so much work the sums are left out.
-const MOST_WORK: usize = 20_000_000;
+const MOST_WORK: usize = 4_000_000;
 
 // For each sum of slab sizes the fewest new slabs that make it, together with some surplus slabs.
 #[derive(Drop)]
@@ -18,9 +18,9 @@ pub(crate) struct SizeSums {
 }
 
 impl SizeSums {
-    pub(crate) fn new(alloc: Global, mill: &Mill, greatest: u32) -> Result<SizeSums, AllocError> {
+    pub(crate) fn new(alloc: Global, mill: &Mill, room: u32) -> Result<SizeSums, AllocError> {
         let weight = total_weight(mill);
-        let most = weight.saturating_add(greatest as usize);
+        let most = weight.saturating_add(room as usize);
         let work = most.saturating_mul(mill.sizes().len().saturating_add(mill.yard().len()));
         if work > MOST_WORK {
             let fewest = Vec::new(alloc);
@@ -37,14 +37,17 @@ impl SizeSums {
         Ok(SizeSums { weight, fewest })
     }
 
-    // No plan with at most so many new slabs loses less.
-    pub(crate) fn least_loss(&self, count: usize) -> u64 {
+    // No plan with at most so many new slabs loses less, and none has so few where there is no such loss.
+    pub(crate) fn least_loss(&self, count: usize) -> Option<u64> {
+        if self.fewest.is_empty() {
+            return Some(0);
+        }
         for (loss, fewest) in self.fewest.iter().skip(self.weight).enumerate() {
             if usize::from(*fewest) <= count && *fewest != NONE {
-                return loss as u64;
+                return Some(loss as u64);
             }
         }
-        0
+        None
     }
 }
 
