@@ -18,17 +18,17 @@ for packed in "$parts"/*.gz; do
 done
 cp "$parts"/*.cert "$here"
 
-# The older tree, with today's program on its calls.
+# The older tree, with today's program on its calls; it has no checker.
 if [ ! -d "$older" ]; then
     git clone -q . "$older"
     git -C "$older" checkout -q "$commit"
     rm -r "$older/crates/bench_parts"
     cp -r crates/bench_parts "$older/crates/"
-    rm -rf "$older/crates/bench_parts/out"
+    rm -rf "$older/crates/bench_parts/out" "$older/crates/bench_parts/src/checks.rt"
     sed -i '/^bench_parts:/d' "$older/crates.txt"
-    grep '^bench_parts:' crates.txt >>"$older/crates.txt"
+    grep '^bench_parts:' crates.txt | sed 's/ cert_check$//' >>"$older/crates.txt"
     sed -i -e 's/read_yard(rt.alloc(), &mill, &yard)/read_yard(rt.alloc(), \&yard)/' \
-        -e 's/mill.set_colour_limit(.*/let _ = colours;/' "$older/crates/bench_parts/src/main.rt"
+        -e 's/mill.set_colour_limit(.*/let _ = colours;/' -e '/^mod checks;/d' -e '/check_often/d' "$older/crates/bench_parts/src/main.rt"
 fi
 (cd crates/bench_parts && rt run -- price data/calls data/orders data/yard 2 1 >/dev/null)
 (cd "$older/crates/bench_parts" && rt run -- price data/calls data/orders data/yard 2 1 >/dev/null)

@@ -3,7 +3,7 @@
 # Usage: bench/time_turns.sh        (builds crates/bench_turns first)
 set -eu
 cd "$(dirname "$0")/../crates/bench_turns"
-rt run -- data/one_order.ord - - - 1 >/dev/null
+rt run -- data/three_orders.ord - 4 - 1 >/dev/null
 program="$PWD/out/bench_turns"
 data="$PWD/../../bench/data"
 TIMEFORMAT=%U

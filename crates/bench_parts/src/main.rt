@@ -1,14 +1,16 @@
 //! Runs one part of the product on work that a file tells, so that a script can time it from outside, and prints how the
 //! calls ended. It prints no time of its own. `told` reads the numbers of a file, `masters` solves restricted masters,
-//! `calls` rebuilds decisions and prices columns, and `leaves` tests the leaves of a certificate.
+//! `calls` rebuilds decisions and prices columns, `leaves` tests the leaves of a certificate, and `checks` checks it whole.
 #![tactic(auto)]
 
 mod calls;
+mod checks;
 mod leaves;
 mod masters;
 mod told;
 
 use crate::calls::make_calls;
+use crate::checks::check_often;
 use crate::leaves::test_leaves;
 use crate::masters::solve_masters;
 use crate::told::read_numbers;
@@ -68,7 +70,7 @@ fn run<R: Env + Files + AllocGlobal + Print>(rt: &R) -> io::Result<bool> {
         _ => {
             println!(rt; "usage: bench_parts MASTERS TIMES")?;
             println!(rt; "       bench_parts price|decide CALLS ORDERS YARD COLOURS TIMES")?;
-            println!(rt; "       bench_parts leaf CERTIFICATE ORDERS YARD COLOURS TIMES")?;
+            println!(rt; "       bench_parts leaf|check CERTIFICATE ORDERS YARD COLOURS TIMES")?;
             Ok(false)
         }
     }
@@ -122,11 +124,13 @@ fn run_on_mill<R: Files + AllocGlobal + Print>(
     times: u16,
 ) -> io::Result<bool> {
     let text = fs::read(rt, file)?;
-    let tally = if part == "leaf" {
-        test_leaves(rt.alloc(), mill, &text, times)?
-    } else {
-        let numbers = read_numbers(rt.alloc(), &text)?;
-        make_calls(rt.alloc(), mill, &numbers, part == "price", times)?
+    let tally = match part {
+        "leaf" => test_leaves(rt.alloc(), mill, &text, times)?,
+        "check" => check_often(rt.alloc(), mill, &text, times)?,
+        _ => {
+            let numbers = read_numbers(rt.alloc(), &text)?;
+            make_calls(rt.alloc(), mill, &numbers, part == "price", times)?
+        }
     };
     println!(rt; "same {} other {}", tally.same, tally.other)?;
     Ok(true)

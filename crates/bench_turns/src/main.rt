@@ -49,7 +49,7 @@ fn run_work<R: Files + AllocGlobal + Print>(rt: &R, work: &Work<'_>) -> io::Resu
     let done = turn_root(rt.alloc(), &mill, work)?;
     println!(rt;
         "{} rounds {} pivots {} wides {} stalls {}",
-        done.answer,
+        done.answer.word(),
         done.rounds,
         done.tally.stalls.pivots(),
         done.tally.wides.count(),

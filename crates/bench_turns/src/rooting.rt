@@ -2,7 +2,10 @@
 
 ghost use Rattle.std.specs.Prelude.{◌≡◌, length, IfOk};
 ghost use Rattle.mill_model.specs.Limits.{number_of};
+ghost use Rattle.mill_model.specs.Plain.{IsPlainlyRefuted};
 ghost use Rattle.slab_master.specs.Given.{IsSmall};
+ghost use Rattle.bench_turns.specs.declared.rooting.Answer.TheVariants.{Refuted};
+ghost use Rattle.bench_turns.specs.Answers.{answer_of};
 
 use crate::work::Work;
 use loss_table::LossTable;
@@ -12,19 +15,41 @@ use slab_decide::Decisions;
 use slab_node::{Tally, Turned, turn};
 use std::alloc::{AllocError, Global};
 
+/// Which answer a turn gave.
+#[derive(Clone, Copy)]
+pub enum Answer {
+    Refuted,
+    Plan,
+    Spread,
+    Bare,
+}
+
 /// What the last of the turns came to.
 #[derive(Drop)]
 pub struct Done {
-    pub answer: &'static str,
+    pub answer: Answer,
     /// How many columns joined the pool, and one more: the rounds of a turn that takes any. It is 1 also for a turn that is
     /// decided without a round.
     pub rounds: usize,
     pub tally: Tally,
 }
 
+impl Answer {
+    /// The word that is printed.
+    pub fn word(self) -> &'static str {
+        match self {
+            Answer::Refuted => "refuted",
+            Answer::Plan => "plan",
+            Answer::Spread => "spread",
+            Answer::Bare => "bare",
+        }
+    }
+}
+
 // A limit of a root.
 fn limit_of(limit: Option<i32>) -> Option<i64>
-    ensures { IsSmall (number_of result) }
+    ensures value { result ≡ limit }
+    ensures small { IsSmall (number_of result) }
 {
     match limit {
         Some(number) => Some(i64::from(number)),
@@ -32,13 +57,28 @@ fn limit_of(limit: Option<i32>) -> Option<i64>
     }
 }
 
-// The name of an answer.
-fn name_of(turned: &Turned) -> &'static str {
+// The limits of a root.
+fn limits_of(work: &Work<'_>) -> Limits
+    ensures loss { result.loss ≡ work.now.loss }
+    ensures count { result.count ≡ work.now.count }
+    ensures small_loss { IsSmall (number_of result.loss) }
+    ensures small_count { IsSmall (number_of result.count) }
+{
+    Limits {
+        loss: limit_of(work.loss),
+        count: limit_of(work.count),
+    }
+}
+
+// Which answer it is.
+fn answer_of(turned: &Turned) -> Answer
+    ensures { result ≡ answer_of turned.now }
+{
     match turned {
-        Turned::Refuted(_prices) => "refuted",
-        Turned::InBox(_plan) => "plan",
-        Turned::Spread(_cover, _ask) => "spread",
-        Turned::Bare(_ask) => "bare",
+        Turned::Refuted(_prices) => Answer::Refuted,
+        Turned::InBox(_plan) => Answer::Plan,
+        Turned::Spread(_cover, _ask) => Answer::Spread,
+        Turned::Bare(_ask) => Answer::Bare,
     }
 }
 
@@ -55,12 +95,13 @@ fn turn_once(
     requires yard { decisions.now.yard ≡ length mill.now.yard }
     requires loss { IsSmall (number_of limits.loss) }
     requires count { IsSmall (number_of limits.count) }
+    ensures plain { IsPlainlyRefuted mill.now limits → IfOk result (λ done. done.answer ≡ Refuted) }
 {
     let mut pool = Pool::new(alloc, mill)?;
     let mut tally = Tally::new();
     let turned = turn(alloc, mill, table, decisions, limits, &mut pool, &mut tally)?;
     Ok(Done {
-        answer: name_of(&turned),
+        answer: answer_of(&turned),
         rounds: pool.len().saturating_add(1),
         tally,
     })
@@ -72,10 +113,7 @@ pub fn turn_root(alloc: Global, mill: &Mill, work: &Work<'_>) -> Result<Done, Al
     let orders = mill.orders().len() as u16;
     let yard = mill.yard().len() as u16;
     let decisions = Decisions::new(alloc, orders, yard)?;
-    let limits = Limits {
-        loss: limit_of(work.loss),
-        count: limit_of(work.count),
-    };
+    let limits = limits_of(work);
     let mut done = turn_once(alloc, mill, &table, &decisions, limits)?;
     for _again in 1..work.times {
         done = turn_once(alloc, mill, &table, &decisions, limits)?;

@@ -1,5 +1,5 @@
 -- What becomes of what is kept, line by line.
-use Rattle.std.proofs.Common.{◌≡◌, ◌⊎◌, ℤ, unsigned_abs, Bool, true, false, inl, inr, List, [], ◌∷◌, ◌++◌, reverse, Some, None, Result, Ok, Err, refl, sym, ap, ◌∙◌, subst}
+use Rattle.std.proofs.Common.{◌≡◌, ◌⊎◌, ℤ, unsigned_abs, Bool, true, false, inl, inr, List, [], ◌∷◌, ◌++◌, reverse, Some, None, Result, Ok, Err, OnOk, IfErr, refl, sym, ap, ◌∙◌, subst}
 use Rattle.mill_model.specs.declared.sums.Sums.{Sums}
 use Rattle.mill_model.specs.declared.version.Version.{Version}
 use Rattle.mill_model.specs.declared.version.Version.TheVariants.{One, Two}
@@ -440,6 +440,11 @@ module _ (old new : Machine) (rest : Bool) where
     pub tree_ask_refused : (line : Line) (broken : Why) → old.kept.version ≡ One → IsNoLeaf line → IsNotAsked old.mill old.kept.path line broken → IsRefused old line broken
     tree_ask_refused line broken one no_leaf = ask_refused old new line (InTree goal Begins old.kept.path) in_tree (InTree goal Begins) (unmarked_is line one no_leaf) broken
 
+    pub tree_ask_turns : (line : Line) → old.kept.version ≡ One → IsNoLeaf line → Keeps old.mill new.kept (InTree goal Begins new.kept.path)
+        → (r : Result (Unit {0}) Why) → OnOk r (IsAsked old.mill old.kept.path new.kept.path line) → IfErr r (IsNotAsked old.mill old.kept.path line) → IsTurn old new line r
+    tree_ask_turns line one no_leaf keeps (Ok done) good bad = tree_ask_goes line one no_leaf good keeps
+    tree_ask_turns line one no_leaf keeps (Err broken) good bad = tree_ask_refused line broken one no_leaf bad
+
     -- a mark of one line
     to_question : new.kept.version ≡ old.kept.version → new.kept.points ≡ old.kept.points → new.kept.path ≡ old.kept.path → new.kept.phase ≡ phases.Question rest → Keeps old.mill new.kept (InTree goal Marked old.kept.path)
     to_question v ps path phase = (v, ap reverse ps, path, phase ∙ ap phases.Question (rest_is rest))
@@ -624,6 +629,11 @@ module _ (old new : Machine) (at : old.kept.phase ≡ phases.Open) where
 
   pub open_ask_refused : (line : Line) (broken : Why) → IsNoOpen line → IsNotAsked old.mill old.kept.path line broken → IsRefused old line broken
   open_ask_refused line broken no_open = ask_refused old new line (InOpenTree open_points old.kept.path) in_open (InOpenTree open_points) (open_turn old.mill open_points old.kept.path line no_open) broken
+
+  pub open_ask_turns : (line : Line) → IsNoOpen line → new.kept.points ≡ old.kept.points → new.kept.phase ≡ old.kept.phase
+      → (r : Result (Unit {0}) Why) → OnOk r (IsAsked old.mill old.kept.path new.kept.path line) → IfErr r (IsNotAsked old.mill old.kept.path line) → IsTurn old new line r
+  open_ask_turns line no_open ps phase (Ok done) good bad = open_ask_goes line no_open good ps phase
+  open_ask_turns line no_open ps phase (Err broken) good bad = open_ask_refused line broken no_open bad
 
 -- ---- the end
 

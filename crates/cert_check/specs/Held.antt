@@ -1,5 +1,6 @@
 -- What a reader holds of a line, and what becomes of it.
 use Rattle.std.specs.Prelude.{◌≡◌, ℕ, ◌≤◌, Bool, true, false, List, [], ◌∷◌, ◌++◌, length, Option, Some, None, Result, Ok, Err}
+use Rattle.mill_model.specs.Mill.{most_orders}
 use Rattle.mill_model.specs.Columns.{Column, Rises}
 use Rattle.cert_view.specs.declared.line.Line.{Line}
 use Rattle.cert_view.specs.declared.line.Spelling.{Spelling}
@@ -32,7 +33,7 @@ last_of true held = line_of_read (next_line held)
 -- a reader that runs holds less than a line, or one that was taken, and has room for the orders of a column
 pub record IsReady (held : List ℕ) (taken : Bool) (failed : Option Failure) (room : ℕ) : Type 0 where
   pub part : failed ≡ None → taken ≡ false → IsPart held
-  pub room_fits : failed ≡ None → 250 ≤ room
+  pub room_fits : failed ≡ None → most_orders ≤ room
 
 -- the text has ended
 abbrev pub IsOver : Phase → Type 0

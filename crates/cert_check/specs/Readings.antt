@@ -6,7 +6,7 @@ use Rattle.cert_rules.specs.States.Wanted.{All, Cuts}
 use Rattle.cert_rules.specs.Rules.{AllKept, FirstBroken}
 use Rattle.cert_rules.specs.Turns.{line_rules, line_next}
 use Rattle.cert_view.specs.declared.line.Line.{Line}
-use Rattle.cert_view.specs.Line.{next_line}
+use Rattle.cert_view.specs.Line.{next_line, most_line}
 use Rattle.cert_view.specs.Held.{IsPart, IsWhole}
 use Rattle.cert_rules.specs.Reading.{IsBadLine}
 use Rattle.cert_view.specs.declared.line.Line.TheVariants as lines
@@ -75,7 +75,7 @@ phase_room m k phases.Unfinished = 0
 
 -- at most so many bytes can still be taken before a line is bad
 abbrev pub room_by : Reading → Option Failure → ℕ
-room_by r None = 8192 * phase_room r.mill r.kept r.kept.phase - length r.held
+room_by r None = most_line * phase_room r.mill r.kept r.kept.phase - length r.held
 room_by r (Some failure) = 0
 
 abbrev pub room : Reading → ℕ

@@ -1,7 +1,9 @@
 -- What a check answers, and what it means.
-use Rattle.std.specs.Prelude.{◌≡◌, ℕ, ℤ, List, [], length, Some, Ok}
+use Rattle.std.specs.Prelude.{◌≡◌, ℕ, ℤ, List, [], length, Some, None, Ok}
 use Rattle.mill_model.specs.declared.sums.Sums.{Sums}
 use Rattle.mill_model.specs.Mill.{Mill}
+use Rattle.mill_model.specs.Plans.{Plan, IsLegal}
+use Rattle.mill_model.specs.Fronts.{IsFront, sums_list}
 use Rattle.mill_model.specs.Columns.{Column}
 use Rattle.mill_model.specs.Decisions.{Decision}
 use Rattle.cert_view.specs.declared.line.Line.{Line}
@@ -17,7 +19,7 @@ use Rattle.cert_rules.specs.States.Wanted.{All, Cuts}
 use Rattle.cert_rules.specs.States.State.{Begin, BetweenPoints, InPlan, InTree, InOpenTree, Ended}
 use Rattle.cert_rules.specs.Turns.{after}
 use Rattle.cert_rules.specs.Reading.{Reads, IsFirstBad, number_after}
-use Rattle.cert_rules.specs.Verdicts.{Verdict as Said}
+use Rattle.cert_rules.specs.Verdicts.{Verdict as Said, LeadToTheFront}
 use Rattle.cert_rules.specs.Verdicts.Verdict.{Front, NoPlan, CutOff, Bad}
 use Rattle.cert_check.specs.declared.line_why.LineWhy.{LineWhy}
 use Rattle.cert_check.specs.declared.line_why.LineWhy.TheVariants as carried
@@ -101,3 +103,15 @@ IsCertRead m bytes (certs.NoPlan version last) =
 IsCertRead m bytes (certs.Cut version head outline) =
     let c : Certificate = record { version = version; points = head; ending = CutEnding outline } in Spells bytes c × ShowsCut m c
 IsCertRead m bytes (certs.No line broken) = IsBadAt m All bytes line broken
+
+-- what the reading of a cut means: its points lead to the front
+abbrev pub CutMeans : Mill → CutRead → Type 0
+CutMeans m (cuts.Head points) = LeadToTheFront m None (sums_list points)
+CutMeans m (cuts.No line broken) = Unit {0}
+
+-- what the reading of a certificate means: its points are the Pareto front, no plan is legal, or its points lead to the front
+abbrev pub CertMeans : Mill → CertRead → Type 0
+CertMeans m (certs.Whole version front) = IsFront m (sums_list front.points)
+CertMeans m (certs.NoPlan version last) = (p : Plan) → IsLegal m p → ⊥
+CertMeans m (certs.Cut version head outline) = LeadToTheFront m None (sums_list head)
+CertMeans m (certs.No line broken) = Unit {0}

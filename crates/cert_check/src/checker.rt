@@ -63,9 +63,12 @@ impl<'m> Checker<'m> {
         self.reader.failed()
     }
 
-    /// What the bytes show that the checker was fed.
+    /// What the bytes show that the checker was fed, as `check` answers it.
     pub fn end(self) -> Verdict
         ensures verdict { (bytes : List ℕ) → Stands self.entry bytes → IsVerdict self.entry.mill bytes (said_of result) }
+        ensures front { (bytes : List ℕ) → Stands self.entry bytes → OnFront result (IsFront self.entry.mill) }
+        ensures no_plan { (bytes : List ℕ) → Stands self.entry bytes → OnNoPlan result ((p : Plan) → IsLegal self.entry.mill p → ⊥) }
+        ensures cut { (bytes : List ℕ) → Stands self.entry bytes → OnCut result (LeadToTheFront self.entry.mill None) }
         ensures column { (bytes : List ℕ) → Stands self.entry bytes → OnNo result (CarriesExceeding self.entry.mill All bytes) }
     {
         match self.reader.end() {

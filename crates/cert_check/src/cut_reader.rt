@@ -1,7 +1,7 @@
 //! The reader of a cut: bytes come in pieces, and at the end it gives the points with their plans and trees.
 ghost use Rattle.std.specs.Prelude.{◌≡◌, ◌↔◌, ◌++◌, [], ℕ, List, IfOk, IsTrue, is_some, length};
 ghost use Rattle.cert_rules.specs.States.Wanted.{Cuts};
-ghost use Rattle.cert_check.specs.Verdicts.{IsCutRead};
+ghost use Rattle.cert_check.specs.Verdicts.{IsCutRead, CutMeans};
 
 use crate::CutRead;
 use crate::gatherer::Gatherer;
@@ -67,9 +67,10 @@ impl<'m> CutReader<'m> {
     }
 
     /// What the bytes show that the reader was fed: the points of a good cut exactly where they spell one, else the first bad
-    /// line, where `done` can't stand.
+    /// line, where `done` can't stand. The points lead to the front.
     pub fn end(self) -> CutRead
-        ensures { (bytes : List ℕ) → StandsAsCut self.entry bytes → IsCutRead self.entry.reading.mill bytes result }
+        ensures read { (bytes : List ℕ) → StandsAsCut self.entry bytes → IsCutRead self.entry.reading.mill bytes result }
+        ensures means { (bytes : List ℕ) → StandsAsCut self.entry bytes → CutMeans self.entry.reading.mill result }
     {
         match self.gatherer.end() {
             Err(failure) => CutRead::No {

@@ -1,7 +1,7 @@
 //! The line machine: a line after another, and what can stand next.
 ghost use Rattle.std.specs.Prelude.{◌≡◌, Err, [], true, false, IfOk, Some, length, ◌≤◌, if◌then◌else◌};
 ghost use Rattle.cert_check.specs.Held.{HasColumn, IsOver};
-ghost use Rattle.mill_model.specs.Mill.{IsInLimits};
+ghost use Rattle.mill_model.specs.Mill.{IsInLimits, most_orders};
 ghost use Rattle.cert_check.specs.Endings.{IsEndingOf};
 ghost use Rattle.cert_check.specs.Machines.{IsFitted};
 ghost use Rattle.cert_view.specs.declared.line.Line.TheVariants as lines;
@@ -100,7 +100,7 @@ impl<'m> Machine<'m> {
     pub(crate) fn bad_column(&self) -> (Kind, &[u16])
         requires { HasColumn (seen self.now) }
         ensures column { (seen self.now).bad ≡ Some (record { kind = result.0; orders = result.1.now }) }
-        ensures few { length result.1.now ≤ 250 }
+        ensures few { length result.1.now ≤ most_orders }
     {
         let orders = self.mill.orders().len();
         prove!(orders <= MOST_ORDERS as usize);
@@ -248,10 +248,7 @@ impl<'m> Machine<'m> {
         ensures same { IsSameReader (seen self.old) (seen self.new) }
         ensures column { result ≡ Err Why.Column → HasFound (seen self.old) (seen self.new) line.now }
     {
-        match ask_line(self.mill, &mut self.path, line) {
-            Err(why) => Err(why),
-            Ok(()) => Ok(()),
-        }
+        ask_line(self.mill, &mut self.path, line)
     }
 
     // A leaf, after which the next branch begins or the tree has ended.
@@ -404,10 +401,7 @@ impl<'m> Machine<'m> {
         ensures same { IsSameReader (seen self.old) (seen self.new) }
         ensures column { result ≡ Err Why.Column → HasFound (seen self.old) (seen self.new) line.now }
     {
-        match ask_line(self.mill, &mut self.path, line) {
-            Err(why) => Err(why),
-            Ok(()) => Ok(()),
-        }
+        ask_line(self.mill, &mut self.path, line)
     }
 }
 

@@ -5,7 +5,7 @@ ghost use Rattle.cert_view.specs.Line.{next_line};
 ghost use Rattle.cert_rules.specs.Reading.{number_after};
 ghost use Rattle.cert_check.specs.declared.line_why.LineWhy.{LineWhy};
 ghost use Rattle.cert_check.specs.Held.{CarriesColumn, HasColumn, IsOver, IsMoved, line_of_read};
-ghost use Rattle.mill_model.specs.Mill.{IsInLimits};
+ghost use Rattle.mill_model.specs.Mill.{IsInLimits, most_orders};
 ghost use Rattle.cert_check.specs.Endings.{HasAccepted};
 ghost use Rattle.cert_check.specs.Readings.{IsStep, IsSameReader};
 ghost use Rattle.cert_check.specs.Verdicts.{IsBadAt};
@@ -251,7 +251,7 @@ fn read_line(held: &LineBuf, machine: &mut Machine<'_>) -> Option<Result<(), Why
 
 // The why with the column that a leaf exceeds.
 fn with_column(why: Why, machine: &Machine<'_>, spare: &mut Vec<u16>) -> LineWhy
-    requires room { 250 ≤ vec_capacity spare.old }
+    requires room { most_orders ≤ vec_capacity spare.old }
     requires found { why ≡ Why.Column → HasColumn (seen machine.now) }
     ensures why { why_of result ≡ why }
     ensures column { CarriesColumn (seen machine.now).bad result }
@@ -268,8 +268,8 @@ fn with_column(why: Why, machine: &Machine<'_>, spare: &mut Vec<u16>) -> LineWhy
 
 // Moves orders into a list, in memory that was taken before.
 fn take_orders(orders: &[u16], spare: &mut Vec<u16>) -> OrderList
-    requires room { 250 ≤ vec_capacity spare.old }
-    requires few { length orders.now ≤ 250 }
+    requires room { most_orders ≤ vec_capacity spare.old }
+    requires few { length orders.now ≤ most_orders }
     ensures { result ≡ orders.now }
 {
     spare.clear();

@@ -1,6 +1,7 @@
 //! Lines of a tree against the path: the code that the line machine calls there.
 ghost use Rattle.std.specs.Prelude.{◌≡◌, ◌≢◌, ◌≤◌, ◌∷◌, true, None, Ok, Err, IfErr, IfOk, OnOk, IfSome, IfNone, IsSome, length};
 ghost use Rattle.cert_view.specs.Text.{IsLine};
+ghost use Rattle.mill_model.specs.Mill.{most_orders, most_slabs};
 ghost use Rattle.mill_model.specs.Prices.{prices_of};
 ghost use Rattle.price_check.specs.Exceeding.{IsExceeding};
 ghost use Rattle.cert_check.specs.Lines.{can_begin, is_ask, IsAsked, IsNotAsked};
@@ -54,7 +55,7 @@ pub(crate) fn ask_line(mill: &Mill, path: &mut Path, line: &Line<'_>) -> Result<
 
 // The question that the numbers of a `pair` line name, if they name one.
 fn named_pair(orders: usize, numbers: &Nums<'_>) -> Option<Ask>
-    requires few { orders ≤ 250 }
+    requires few { orders ≤ most_orders }
     requires count { length numbers.now ≡ 2 }
     ensures named { IfSome result (λ ask. NamesPair orders numbers.now × (ask ≡ pair_of numbers.now)) }
     ensures unnamed { IfNone result (NamesPair orders numbers.now → ⊥) }
@@ -91,8 +92,8 @@ pub(crate) fn pair_line(mill: &Mill, path: &mut Path, numbers: &Nums<'_>) -> Res
 
 // The question that the numbers of a `put` line name, if they name one.
 fn named_put(orders: usize, slabs: usize, numbers: &Nums<'_>) -> Option<Ask>
-    requires few { orders ≤ 250 }
-    requires fewer { slabs ≤ 40 }
+    requires few { orders ≤ most_orders }
+    requires fewer { slabs ≤ most_slabs }
     requires count { length numbers.now ≡ 2 }
     ensures named { IfSome result (λ ask. NamesPut orders slabs numbers.now × (ask ≡ put_of numbers.now)) }
     ensures unnamed { IfNone result (NamesPut orders slabs numbers.now → ⊥) }

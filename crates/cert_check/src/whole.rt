@@ -3,7 +3,7 @@ ghost use Rattle.std.specs.Prelude.{◌≡◌, ℕ, IfOk, List};
 ghost use Rattle.cert_rules.specs.States.Wanted.{All};
 ghost use Rattle.cert_check.specs.Gathering.{Gathers};
 ghost use Rattle.cert_check.specs.Parts.{gathered};
-ghost use Rattle.cert_check.specs.Verdicts.{IsCutRead, IsCertRead};
+ghost use Rattle.cert_check.specs.Verdicts.{IsCutRead, IsCertRead, CutMeans, CertMeans};
 
 use crate::gatherer::Gatherer;
 use crate::{CertRead, CutRead, CutReader};
@@ -11,9 +11,10 @@ use mill_model::Mill;
 use std::alloc::{AllocError, Global};
 
 /// Reads a cut, and keeps its points with their plans and trees; the open tree is given up. The answer is the head exactly
-/// where the bytes spell a good cut, else the first bad line, where `done` can't stand.
+/// where the bytes spell a good cut, else the first bad line, where `done` can't stand. The points lead to the front.
 pub fn read_cut(alloc: Global, mill: &Mill, bytes: &[u8]) -> Result<CutRead, AllocError>
-    ensures { IfOk result (IsCutRead mill.now bytes.now) }
+    ensures read { IfOk result (IsCutRead mill.now bytes.now) }
+    ensures means { IfOk result (CutMeans mill.now) }
 {
     let reader = CutReader::new(alloc, mill)?;
     match reader.feed(alloc, bytes) {
@@ -23,9 +24,11 @@ pub fn read_cut(alloc: Global, mill: &Mill, bytes: &[u8]) -> Result<CutRead, All
 }
 
 /// Reads a certificate and keeps all of it. The answer is the certificate exactly where the bytes spell a good one, else the
-/// first bad line.
+/// first bad line. The points of a whole one are the Pareto front, those of a cut lead to it, and where a whole one has none no
+/// plan is legal.
 pub fn read_cert(alloc: Global, mill: &Mill, bytes: &[u8]) -> Result<CertRead, AllocError>
-    ensures { IfOk result (IsCertRead mill.now bytes.now) }
+    ensures read { IfOk result (IsCertRead mill.now bytes.now) }
+    ensures means { IfOk result (CertMeans mill.now) }
 {
     let mut gatherer = Gatherer::new(alloc, mill, false)?;
     match gatherer.feed(alloc, bytes) {

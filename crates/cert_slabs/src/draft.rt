@@ -9,7 +9,7 @@ ghost use Rattle.cert_slabs.specs.Answers.{Answers};
 ghost use Rattle.cert_slabs.specs.Drafts.{IsDraft, AreNext, ArePut, IsNextFree};
 
 use crate::roster::Roster;
-use crate::slab::{listed_size, named_slab, size_of, test_slab};
+use crate::slab::{listed_size, named_slab, test_slab};
 use cert_rules::Why;
 use cert_view::Nums;
 use mill_model::{Kind, MOST_ORDERS, Mill, Sums};
@@ -230,7 +230,7 @@ fn total_size(mill: &Mill, kinds: &[Kind]) -> u32
 {
     let mut sum: u32 = 0;
     for kind in kinds {
-        sum += size_of(mill, *kind);
+        sum += u32::from(mill.size_of(*kind));
     }
     sum
 }

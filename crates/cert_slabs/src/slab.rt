@@ -1,6 +1,6 @@
 //! One slab: what a line's numbers name, and what the mill allows on it.
 ghost use Rattle.std.specs.Prelude.{◌≡◌, ◌≢◌, Err, ◌≤◌, ◌<◌, ◌^◌, ◌↔◌, true, IfSome, IfNone, IsTrue, length};
-ghost use Rattle.mill_model.specs.Columns.{Rises, load, colours_of, has_barred, size_of as size_of_kind};
+ghost use Rattle.mill_model.specs.Columns.{Rises, load, colours_of, has_barred};
 ghost use Rattle.cert_rules.specs.Numbers.{Names, index, natural};
 ghost use Rattle.cert_rules.specs.Slabs.{IsListed, HasFewColours};
 ghost use Rattle.cert_slabs.specs.Answers.{Answers, bar_rules, slab_rules};
@@ -43,7 +43,7 @@ pub fn test_slab(mill: &Mill, kind: Kind, orders: &[u16]) -> Result<(), Why>
     ensures rules { Answers (slab_rules mill.now (record { kind = kind; orders = orders.now })) result }
     ensures other { result ≢ Err Why.Column }
 {
-    if load_of(mill, orders) > size_of(mill, kind) {
+    if load_of(mill, orders) > u32::from(mill.size_of(kind)) {
         return Err(Why::Load);
     }
     if !has_few_colours(mill, orders) {
@@ -66,17 +66,6 @@ pub(crate) fn load_of(mill: &Mill, orders: &[u16]) -> u32
         sum += u32::from(all[usize::from(*order)].weight);
     }
     sum
-}
-
-// What a slab can hold.
-pub(crate) fn size_of(mill: &Mill, kind: Kind) -> u32
-    ensures size { result ≡ size_of_kind mill.now kind }
-    ensures small { result < 2 ^ 16 }
-{
-    match kind {
-        Kind::New(size) => u32::from(size),
-        Kind::Old(slab) => u32::from(mill.yard().get(usize::from(slab)).copied().unwrap_or(0)),
-    }
 }
 
 // Whether the orders have no more different colours than one slab may have.

@@ -12,7 +12,7 @@ ghost use Rattle.cert_slabs.specs.Answers.{Answers, IsRead, IsShare, share_of, n
 ghost use Rattle.cert_slabs.specs.Tallies.{AreFair, AreWithin, IsAdded, IsFair, IsTally, StayWithin};
 
 use crate::roster::Roster;
-use crate::slab::{listed_size, load_of, named_slab, size_of, test_slab};
+use crate::slab::{listed_size, load_of, named_slab, test_slab};
 use cert_rules::Why;
 use cert_view::Nums;
 use mill_model::{Kind, Limits, Mill};
@@ -23,10 +23,14 @@ use std::marker::Model;
 /// and the losses and the new slabs, each times its multiplier.
 #[derive(Drop)]
 pub struct Tally {
+    // at most 2^62
     d: u64,
     begun: bool,
+    // Each grows by a multiplier of at most 2^62 and is then tested against d, so it stays below 2^63.
     covered: Vec<u64>,
     used: Vec<u64>,
+    // Every share covers an order, and each of 250 orders is covered at most d times. So the multipliers sum to at most
+    // 250 d, and since a slab loses less than 2^16, the two sums stay below 2^86.
     lost: u128,
     opened: u128,
 }
@@ -95,7 +99,7 @@ impl Tally {
         ensures orders { length self.new.covered ≡ length self.old.covered }
         ensures slabs { length self.new.used ≡ length self.old.used }
     {
-        let loss = size_of(mill, kind).saturating_sub(load_of(mill, orders));
+        let loss = u32::from(mill.size_of(kind)).saturating_sub(load_of(mill, orders));
         if !cover(&mut self.covered, orders, times, self.d) {
             return false;
         }

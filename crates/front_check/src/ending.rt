@@ -1,3 +1,4 @@
+// What a run finds before it says anything.
 ghost use Rattle.std.specs.Prelude.{◌≡◌};
 ghost use Rattle.front_check.specs.declared.ending.Stop.TheVariants.{Fault, Memory};
 

@@ -10,14 +10,13 @@ mod files;
 mod laws;
 mod program;
 mod reading;
-#[cfg(test)]
-mod tests;
 mod texts;
 mod verdict;
 mod words;
 
 pub use cert_check::{
-    CertRead, Checker, CutRead, Failure, LineWhy, OrderList, Points, Verdict, check,
+    CertRead, Checker, CutRead, CutReader, Failure, LineWhy, OrderList, Points, Verdict, check,
+    read_cert, read_cut,
 };
 pub use laws::one_answer;
 pub use program::check_run;

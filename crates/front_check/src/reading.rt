@@ -28,6 +28,7 @@ pub fn read_certificate<D: Desk>(
         (D.told desk.old) (D.told desk.new) (D.faults desk.old) (D.faults desk.new) result }
     ensures stopped { D.stopped desk.new ≡ is_fault result }
 {
+    // Its readers tell that a mill is within its limits.
     let _within_limits = mill.colours();
     desk.open_file(name)?;
     let mut checker = Checker::new(alloc, mill)?;

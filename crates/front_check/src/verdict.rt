@@ -1,3 +1,4 @@
+// What is said of a verdict.
 ghost use Rattle.std.specs.Prelude.{◌≡◌, IfOk};
 ghost use Rattle.std.specs.String.{string_bytes};
 ghost use Rattle.cert_check.specs.Verdicts.{said_of};

@@ -1,30 +1,8 @@
--- Rising numbers, in std's words and after a push.
-use Rattle.std.proofs.Common.{◌≡◌, ℕ, zero, suc, ◌+◌, ◌<◌, ◌≤◌, Bool, false, cond, ◌||◌, eqb, List, [], ◌∷◌, ◌++◌, length, slice_index, All, refl, sym, ap, ap₂, ◌∙◌, subst, inl, inr, arith, add-one}
-use Rattle.std.specs.List.Sorted.{IsStrictlyIncreasing}
-use Rattle.std.proofs.lemmas.Bool.{eq-eqb, ne_eqb, cases_eq, cases_order, cond_both, or_left, or_from, both_ways}
+-- Lists of rising numbers.
+use Rattle.std.proofs.Common.{◌≡◌, ℕ, ◌+◌, ◌<◌, false, ◌||◌, eqb, List, [], ◌∷◌, refl, sym, ap, ap₂, ◌∙◌, subst, inl, inr, arith}
+use Rattle.std.proofs.lemmas.Bool.{eq-eqb, ne_eqb, cases_eq, cases_order, or_left, or_from, both_ways}
 use Rattle.mill_model.specs.Columns.{Rises, has}
 use Rattle.mill_model.proofs.Duality.{not_has}
-use Rattle.mill_model.proofs.Slabs.{Rises-lower}
-
-pub Rises-push : (low high : ℕ) (xs : List ℕ) (x : ℕ) → Rises low x xs → low ≤ x → x < high → Rises low high (xs ++ x ∷ [])
-Rises-push low high [] x r l h = (l, h, tt)
-Rises-push low high (y ∷ xs) x r l h = (r.0, omega (arith, r.1), Rises-push (y + 1) high xs x r.2 (omega (arith, r.1)) h)
-
-pub increasing_from_Rises : (low high : ℕ) (xs : List ℕ) → Rises low high xs → IsStrictlyIncreasing xs
-increasing_from_Rises low high [] r k h = absurd (omega arith)
-increasing_from_Rises low high (x ∷ []) r k h = absurd (omega arith)
-increasing_from_Rises low high (x ∷ y ∷ xs) r zero h = omega (arith, r.2.0)
-increasing_from_Rises low high (x ∷ y ∷ xs) r (suc k) h = let rest : slice_index (y ∷ xs) k < slice_index (y ∷ xs) (k + 1) = increasing_from_Rises (x + 1) high (y ∷ xs) r.2 k (omega arith) in rw add-one (rw add-one at rest)
-
-pub Rises-from_increasing : (low high : ℕ) (xs : List ℕ) → IsStrictlyIncreasing xs → All (λ x. x < high) xs → (0 < length xs → low ≤ slice_index xs 0) → Rises low high xs
-Rises-from_increasing low high [] s b l = tt
-Rises-from_increasing low high (x ∷ xs) s b l = (l (omega arith), b 0 0 (omega arith), Rises-from_increasing (x + 1) high xs rest (λ k d h. b (suc k) d (omega arith)) first)
-  where
-    rest : IsStrictlyIncreasing xs
-    rest k h = let up : slice_index (x ∷ xs) (suc k) < slice_index (x ∷ xs) (suc k + 1) = s (suc k) (omega arith) in rw add-one (rw add-one at up)
-
-    first : 0 < length xs → x + 1 ≤ slice_index xs 0
-    first h = omega (arith, s 0 (omega arith))
 
 -- rising lists with the same members are one
 pub same_members : (low n : ℕ) (xs ys : List ℕ) → Rises low n xs → Rises low n ys → ((i : ℕ) → i < n → has xs i ≡ has ys i) → xs ≡ ys
@@ -53,28 +31,3 @@ same_members low n (x ∷ xs) (y ∷ ys) r s h = ap₂ ◌∷◌ heads (same_mem
       | inl e ↦ not_has (x + 1) n xs i r.2 (omega arith) ∙ sym (not_has (y + 1) n ys i s.2 (omega (arith, heads)))
       | inr ne ↦ sym (drop_first x i xs ne) ∙ h i l ∙ drop_first y i ys (λ e. ne (heads ∙ e))
     ]
-
--- the numbers from low on, k of them, that pass a test
-pub passing : (ℕ → Bool) → ℕ → ℕ → List ℕ
-passing test low zero = []
-passing test low (suc k) = cond (test low) (low ∷ passing test (low + 1) k) (passing test (low + 1) k)
-
-pub passing_rises : (test : ℕ → Bool) (low k high : ℕ) → low + k ≤ high → Rises low high (passing test low k)
-unfolding passing
-passing_rises test low zero high h = tt
-passing_rises test low (suc k) high h =
-    cond_both (test low) (low ∷ passing test (low + 1) k) (passing test (low + 1) k) (λ ys. Rises low high ys)
-    (λ _. (omega arith, omega arith, passing_rises test (low + 1) k high (omega arith)))
-    (λ _. Rises-lower (low + 1) low high (passing test (low + 1) k) (omega arith) (passing_rises test (low + 1) k high (omega arith)))
-
-pub has-passing : (test : ℕ → Bool) (low k i : ℕ) → low ≤ i → i < low + k → has (passing test low k) i ≡ test i
-unfolding passing
-has-passing test low zero i l h = absurd (omega arith)
-has-passing test low (suc k) i l h = elim (cases_eq low i) [
-  | inl e ↦ cond_both (test low) (low ∷ passing test (low + 1) k) (passing test (low + 1) k) (λ ys. has ys i ≡ test i)
-      (λ q. or_left (eqb low i) (has (passing test (low + 1) k) i) (eq-eqb low i e) ∙ sym (ap test (sym e) ∙ q))
-      (λ q. not_has (low + 1) (low + 1 + k) (passing test (low + 1) k) i (passing_rises test (low + 1) k (low + 1 + k) (omega arith)) (omega arith) ∙ sym (ap test (sym e) ∙ q))
-  | inr ne ↦ cond_both (test low) (low ∷ passing test (low + 1) k) (passing test (low + 1) k) (λ ys. has ys i ≡ test i)
-      (λ q. ap (λ b. b || has (passing test (low + 1) k) i) (ne_eqb low i ne) ∙ has-passing test (low + 1) k i (omega arith) (omega arith))
-      (λ q. has-passing test (low + 1) k i (omega arith) (omega arith))
-]

@@ -1,5 +1,5 @@
 -- Laws of signed numbers and their sums.
-use Rattle.std.proofs.Common.{◌≡◌, ℕ, zero, suc, ◌+◌, ◌<◌, ℤ, pos, negsuc, ◌+ℤ◌, ◌*ℤ◌, ◌≤ℤ◌, ◌<ℤ◌, Bool, true, false, cond, List, [], ◌∷◌, ◌++◌, length, get_or, take, fold, sum_by, sym, refl, ap, ◌∙◌, arith}
+use Rattle.std.proofs.Common.{◌≡◌, ℕ, zero, suc, ◌+◌, ◌<◌, ℤ, pos, negsuc, ◌+ℤ◌, ◌*ℤ◌, ◌≤ℤ◌, ◌<ℤ◌, Bool, true, false, cond, List, [], ◌∷◌, ◌++◌, length, get_or, take, sum_by, sym, refl, ap, ◌∙◌, arith}
 use Rattle.std.specs.List.{AllByRecursion}
 use Rattle.std.proofs.lemmas.Int.{ints}
 use Rattle.std.proofs.lemmas.List.{take_more}
@@ -137,8 +137,3 @@ total_by-append f (x ∷ xs) ys = omega (arith, ints, total_by-append f xs ys)
 
 pub total_by-more : {X : Type 0} (f : X → ℤ) (xs : List X) (i : ℕ) (d : X) → i < length xs → total_by f (take (i + 1) xs) ≡ total_by f (take i xs) +ℤ f (get_or xs i d)
 total_by-more f xs i d h = ap (total_by f) (take_more xs i d h) ∙ total_by-append f (take i xs) (get_or xs i d ∷ []) ∙ omega (arith, ints)
-
--- std's fold from the left is the same sum
-pub total_by-fold : {X : Type 0} (f : X → ℤ) (a : ℤ) (xs : List X) → fold (λ s x. s +ℤ f x) a xs ≡ a +ℤ total_by f xs
-total_by-fold f a [] = omega (arith, ints)
-total_by-fold f a (x ∷ xs) = omega (arith, ints, total_by-fold f (a +ℤ f x) xs)

@@ -1,14 +1,9 @@
--- A new slab of the least size that holds its orders decides for all larger ones.
-use Rattle.std.proofs.Common.{◌≡◌, ℕ, ◌-◌, ◌≤◌, pos, ◌≤ℤ◌, Bool, ◌&&◌, List, [], ◌∷◌, refl, ap₂, arith}
-use Rattle.std.proofs.lemmas.Int.{ints}
+-- Agreement doesn't see the size of a new slab.
+use Rattle.std.proofs.Common.{◌≡◌, ℕ, Bool, ◌&&◌, List, [], ◌∷◌, refl, ap₂}
 use Rattle.mill_model.specs.declared.ask.Ask.{Ask}
 use Rattle.mill_model.specs.declared.ask.Ask.TheVariants.{Pair, Put}
 use Rattle.mill_model.specs.declared.kind.Kind.TheVariants.{New}
-use Rattle.mill_model.specs.Mill.{Mill}
-use Rattle.mill_model.specs.Prices.{Prices, IsPriced}
-use Rattle.mill_model.specs.Columns.{load}
 use Rattle.mill_model.specs.Decisions.{Decision, agrees, column_agrees}
-use Rattle.mill_model.proofs.Signed.{mul_le}
 
 -- agreement doesn't see the size
 agrees_any_size : (u v : ℕ) (orders : List ℕ) (ask : Ask) (b : Bool) → agrees (record { kind = New u; orders = orders }) (ask, b) ≡ agrees (record { kind = New v; orders = orders }) (ask, b)
@@ -18,6 +13,3 @@ agrees_any_size u v orders (Put o s) b = refl
 pub column_agrees_any_size : (u v : ℕ) (orders : List ℕ) (decisions : List Decision) → column_agrees decisions (record { kind = New u; orders = orders }) ≡ column_agrees decisions (record { kind = New v; orders = orders })
 column_agrees_any_size u v orders [] = refl
 column_agrees_any_size u v orders (d ∷ decisions) = ap₂ (λ a b. a && b) (agrees_any_size u v orders d.0 d.1) (column_agrees_any_size u v orders decisions)
-
-pub priced_larger : (m : Mill) (p : Prices) (u v : ℕ) (orders : List ℕ) → pos 0 ≤ℤ p.lambda → u ≤ v → IsPriced m p (record { kind = New u; orders = orders }) → IsPriced m p (record { kind = New v; orders = orders })
-priced_larger m p u v orders sign le h = record { priced = omega (arith, ints, h.priced, mul_le p.lambda (pos (u - load m orders)) (pos (v - load m orders)) sign (omega (arith, ints))) }

@@ -4,6 +4,7 @@ use Rattle.std.specs.List.{sum_by, Contains, list_any}
 use Rattle.mill_model.specs.declared.order.Order.{Order}
 use Rattle.mill_model.specs.declared.kind.Kind.{Kind}
 use Rattle.mill_model.specs.declared.kind.Kind.TheVariants.{New, Old}
+use Rattle.mill_model.specs.declared.column.Column.{Column as Lent}
 use Rattle.mill_model.specs.Mill.{Mill, is_bar}
 
 -- the order with this number
@@ -49,6 +50,14 @@ is_barred m o (Old s) = list_any (is_bar o s) m.bars
 pub record Column : Type 0 where
   pub kind : Kind
   pub orders : List ℕ
+
+-- the column of a slab and the orders on it
+abbrev pub column_of : Kind → List ℕ → Column
+column_of kind orders = record { kind = kind; orders = orders }
+
+-- the column that is lent
+abbrev pub lent_column : Lent → Column
+lent_column lent = column_of lent.kind lent.orders.now
 
 -- whether some order of a column mustn't lie on its slab
 abbrev pub has_barred : Mill → Column → Bool

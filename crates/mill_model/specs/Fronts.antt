@@ -26,12 +26,6 @@ pub record IsFront (m : Mill) (xs : List Sums) : Type 0 where
   pub rise : LossesRise xs
   pub exact : (x : Sums) → Contains xs x ↔ (IsAttained m x × IsUndominated m x)
 
--- the counts fall
-abbrev pub CountsFall : List Sums → Type 0
-CountsFall [] = Unit {0}
-CountsFall (x ∷ []) = Unit {0}
-CountsFall (x ∷ y ∷ ys) = (y.count < x.count) × CountsFall (y ∷ ys)
-
 -- some member is at most the pair in both numbers
 abbrev pub Covers : List Sums → Sums → Type 0
 Covers xs y = (x : Sums) × Contains xs x × (x.loss ≤ y.loss) × (x.count ≤ y.count)

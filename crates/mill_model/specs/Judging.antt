@@ -42,7 +42,9 @@ slab_rules k = Empty k ∷ Size k ∷ Yard k ∷ Twice k ∷ Load k ∷ Colours 
 
 -- all rules: that of the number of places, that of each place, and those of each slab
 abbrev pub rules_of : Plan → List Illegal
-rules_of p = Places ∷ (map Place (range_with_len 0 (length p.place)) ++ flat_map slab_rules (range_with_len 0 (length p.kinds)))
+rules_of p =
+    Places ∷ (map Place (range_with_len 0 (length p.place))
+    ++ flat_map slab_rules (range_with_len 0 (length p.kinds)))
 
 abbrev pub first_broken : Mill → Plan → Option Illegal
 first_broken m p = find (breaks m p) (rules_of p)

@@ -59,7 +59,8 @@ TreesServeSmallerLimits = (m : Mill) (smaller limits : Limits) (decisions : List
 
 -- The points of a whole certificate are the Pareto front.
 abbrev pub WholeCertificatesGiveTheFront : Type 0
-WholeCertificatesGiveTheFront = (m : Mill) (points : List Point) (last : MarkedSteps) → IsGoodWhole m points last → IsFront m (sums_list points)
+WholeCertificatesGiveTheFront = (m : Mill) (points : List Point) (last : MarkedSteps) →
+    IsGoodWhole m points last → IsFront m (sums_list points)
 
 -- Where a whole certificate has no point, no plan is legal.
 abbrev pub NoPointMeansNoPlan : Type 0
@@ -68,7 +69,8 @@ NoPointMeansNoPlan = (m : Mill) (last : MarkedSteps) (p : Plan) → IsGoodWhole 
 -- In a good head each point but the last is undominated, and the last has the least loss among the pairs that fall below the point before it.
 abbrev pub GoodHeadsBeginTheFront : Type 0
 GoodHeadsBeginTheFront = (m : Mill) (points : List Point) (last : Point) → IsGoodHead m (points ++ last ∷ []) →
-    AllByRecursion (IsUndominated m) (sums_list points) × ((x : Sums) → IsAttained m x → FallsBelow x.count (last_sums None points) → last.sums.loss ≤ x.loss)
+    AllByRecursion (IsUndominated m) (sums_list points)
+    × ((x : Sums) → IsAttained m x → FallsBelow x.count (last_sums None points) → last.sums.loss ≤ x.loss)
 
 -- Limits that are plainly refuted are refuted by prices, under any decisions.
 abbrev pub PlainlyRefutedLimitsAreRefuted : Type 0

@@ -1,5 +1,5 @@
 -- A mill as contracts see it, and the limits of its numbers.
-use Rattle.std.specs.Prelude.{ℕ, ◌<◌, ◌≤◌, Bool, ◌&&◌, eqb, List, length, All}
+use Rattle.std.specs.Prelude.{ℕ, ◌<◌, ◌≤◌, Bool, ◌&&◌, eqb, List, [], length, All}
 use Rattle.mill_model.specs.declared.order.Order.{Order}
 
 -- a mill has at most so many sizes
@@ -16,6 +16,10 @@ most_colours = 250
 -- the greatest colour limit
 abbrev pub most_colour_limit : ℕ
 most_colour_limit = 3
+
+-- the colour limit of a mill that was told none
+abbrev pub usual_colour_limit : ℕ
+usual_colour_limit = 2
 
 abbrev pub most_orders : ℕ
 most_orders = 250
@@ -59,6 +63,21 @@ yard_of m = record { sizes = m.yard; bars = m.bars }
 -- the mill with this yard in place of its own
 abbrev pub with_yard : Mill → Yard → Mill
 with_yard m yard = record m { yard = yard.sizes; bars = yard.bars }
+
+-- the mill of these numbers, with this yard
+abbrev pub mill_of : List ℕ → ℕ → ℕ → List Order → Yard → Mill
+mill_of sizes colours colour_limit orders yard = record {
+  sizes = sizes;
+  colours = colours;
+  colour_limit = colour_limit;
+  orders = orders;
+  yard = yard.sizes;
+  bars = yard.bars;
+}
+
+-- the mill with an empty yard and the usual colour limit
+abbrev pub bare_mill : List ℕ → ℕ → List Order → Mill
+bare_mill sizes colours orders = mill_of sizes colours usual_colour_limit orders (record { sizes = []; bars = [] })
 
 abbrev pub IsBetween : ℕ → ℕ → ℕ → Type 0
 IsBetween low high n = (low ≤ n) × (n ≤ high)

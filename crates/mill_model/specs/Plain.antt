@@ -27,10 +27,25 @@ abbrev pub IsPlainlyRefuted : Mill → Limits → Type 0
 IsPlainlyRefuted m limits = IsLossRefuted limits ⊎ (IsCountRefuted limits ⊎ IsWeightRefuted m limits)
 
 abbrev pub loss_prices : Mill → Prices
-loss_prices m = record { lambda = pos 1; mu = pos 0; pi = replicate (length m.orders) (pos 0); sigma = replicate (length m.yard) (pos 0) }
+loss_prices m = record {
+  lambda = pos 1;
+  mu = pos 0;
+  pi = replicate (length m.orders) (pos 0);
+  sigma = replicate (length m.yard) (pos 0);
+}
 
 abbrev pub count_prices : Mill → Prices
-count_prices m = record { lambda = pos 0; mu = pos 1; pi = replicate (length m.orders) (pos 0); sigma = replicate (length m.yard) (pos 0) }
+count_prices m = record {
+  lambda = pos 0;
+  mu = pos 1;
+  pi = replicate (length m.orders) (pos 0);
+  sigma = replicate (length m.yard) (pos 0);
+}
 
 abbrev pub weight_prices : Mill → Prices
-weight_prices m = record { lambda = pos 0; mu = pos (greatest_size m); pi = map (λ (o : Order). pos o.weight) m.orders; sigma = map pos m.yard }
+weight_prices m = record {
+  lambda = pos 0;
+  mu = pos (greatest_size m);
+  pi = map (λ (o : Order). pos o.weight) m.orders;
+  sigma = map pos m.yard;
+}

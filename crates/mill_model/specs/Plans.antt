@@ -36,7 +36,10 @@ is_new (Old s) = false
 
 -- the steel that no order takes, and the number of new slabs
 abbrev pub sums_of : Mill → Plan → Sums
-sums_of m p = record { loss = sum_by (size_of m) p.kinds - sum_by (λ order. order.weight) m.orders; count = count_by is_new p.kinds }
+sums_of m p = record {
+  loss = sum_by (size_of m) p.kinds - sum_by (λ order. order.weight) m.orders;
+  count = count_by is_new p.kinds;
+}
 
 -- some legal plan has these sums
 abbrev pub IsAttained : Mill → Sums → Type 0

@@ -55,7 +55,9 @@ HasLimits limits p = IfNone limits.loss (p.lambda ≡ pos 0) × IfNone limits.co
 
 -- the orders are worth more than any slabs within the limits cost
 abbrev pub IsWorth : Limits → Prices → Type 0
-IsWorth limits p = (p.lambda *ℤ number_of limits.loss +ℤ p.mu *ℤ number_of limits.count +ℤ total_by (λ q. q) p.sigma) <ℤ total_by (λ q. q) p.pi
+IsWorth limits p =
+    (p.lambda *ℤ number_of limits.loss +ℤ p.mu *ℤ number_of limits.count +ℤ total_by (λ q. q) p.sigma)
+    <ℤ total_by (λ q. q) p.pi
 
 -- no legal column that agrees with the decisions is worth more than it costs
 abbrev pub NoneExceeds : Mill → List Decision → Prices → Type 0
@@ -80,4 +82,9 @@ HasCount m numbers = length numbers ≡ 2 + length m.orders + length m.yard
 
 -- numbers read as prices: of loss, of a new slab, one for each of so many orders, and the rest for the surplus slabs
 abbrev pub prices_of : ℕ → List ℤ → Prices
-prices_of orders numbers = record { lambda = slice_index_or numbers 0 (pos 0); mu = slice_index_or numbers 1 (pos 0); pi = take orders (drop 2 numbers); sigma = drop (2 + orders) numbers }
+prices_of orders numbers = record {
+  lambda = slice_index_or numbers 0 (pos 0);
+  mu = slice_index_or numbers 1 (pos 0);
+  pi = take orders (drop 2 numbers);
+  sigma = drop (2 + orders) numbers;
+}

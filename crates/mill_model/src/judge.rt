@@ -69,7 +69,7 @@ fn judge_slab(mill: &Mill, plan: &Plan, k: u16) -> Result<(), Illegal>
     if is_used(&plan.kinds()[..k as usize], kind) {
         return Err(Illegal::Twice(k));
     }
-    if load_on(mill, plan.place(), k) > size_of(mill, kind) {
+    if load_on(mill, plan.place(), k) > u32::from(mill.size_of(kind)) {
         return Err(Illegal::Load(k));
     }
     if has_many_colours(mill, plan.place(), k) {
@@ -137,17 +137,6 @@ fn is_old(kind: Kind, slab: u16) -> bool
     match kind {
         Kind::New(_) => false,
         Kind::Old(other) => other == slab,
-    }
-}
-
-// What a slab can hold.
-fn size_of(mill: &Mill, kind: Kind) -> u32
-    ensures size { result ≡ size_of_kind mill.now kind }
-    ensures small { result < 2 ^ 16 }
-{
-    match kind {
-        Kind::New(size) => u32::from(size),
-        Kind::Old(slab) => u32::from(mill.yard().get(slab as usize).copied().unwrap_or(0)),
     }
 }
 
@@ -228,7 +217,7 @@ fn total_size(mill: &Mill, kinds: &[Kind]) -> u32
 {
     let mut sum: u32 = 0;
     for kind in kinds {
-        sum += size_of(mill, *kind);
+        sum += u32::from(mill.size_of(*kind));
     }
     sum
 }

@@ -1,7 +1,7 @@
 //! The steel mill slab design problem (CSPLib problem 038) with a yard of surplus slabs: mills, plans, their Pareto front,
 //! and the certificates that prove one, with the laws that join these definitions.
 //!
-//! Read `numbers`, `order`, `yard` and `mill` first (what is given), then `kind`, `plan`, `sums`, `illegal` and `judge` (plans
+//! Read `numbers`, `order`, `yard` and `mill` first (what is given), then `kind`, `column`, `plan`, `sums`, `illegal` and `judge` (plans
 //! and their rules), `limits`, `ask`, `prices`, `share`, `shown`, `mark` and `steps` (what proves that no plan is better),
 //! `head`, `front`, `open_tree`, `proved` and `version` (certificates), and last `laws`. Of the definitions, read `Mill`,
 //! `Columns`, `Plans`, `Judging`, `Limits`, `Decisions`, `Prices`, `Covers`, `Trees`, `Marks` and `Fronts`, in this order.
@@ -10,6 +10,7 @@
 mod ask;
 mod bar_table;
 mod colour_set;
+mod column;
 mod front;
 mod head;
 mod illegal;
@@ -34,6 +35,7 @@ mod version;
 mod yard;
 
 pub use ask::Ask;
+pub use column::Column;
 pub use front::Front;
 pub use head::Head;
 pub use illegal::Illegal;
@@ -52,6 +54,7 @@ pub use mark::Mark;
 pub use mill::Mill;
 pub use numbers::{
     MOST_BARS, MOST_COLOUR_LIMIT, MOST_COLOURS, MOST_ORDERS, MOST_SIZES, MOST_SLABS, MOST_WEIGHT,
+    USUAL_COLOUR_LIMIT,
 };
 pub use open_tree::OpenTree;
 pub use order::Order;

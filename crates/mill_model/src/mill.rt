@@ -1,9 +1,9 @@
-ghost use Rattle.std.specs.Prelude.{◌≡◌, [], length};
-ghost use Rattle.mill_model.specs.Mill.{IsInLimits, IsBetween, AreBarsAmong, with_yard, most_colour_limit};
+ghost use Rattle.std.specs.Prelude.{◌≡◌, ◌≤◌, length};
+ghost use Rattle.mill_model.specs.Mill.{IsInLimits, IsBetween, AreBarsAmong, bare_mill, with_yard, most_colour_limit, most_weight};
 ghost use Rattle.mill_model.specs.declared.kind.Kind.TheVariants.{Old};
-ghost use Rattle.mill_model.specs.Columns.{is_barred as is_barred_from};
+ghost use Rattle.mill_model.specs.Columns.{IsInStock, is_barred as is_barred_from, size_of as size_of_kind};
 
-use crate::{Order, Yard};
+use crate::{Kind, Order, USUAL_COLOUR_LIMIT, Yard};
 use std::marker::Model;
 
 /// A mill: the slab sizes that it casts (1 to 100 of them, each 1 to 10,000), the number of its colours (1 to 250), how many
@@ -19,27 +19,27 @@ pub struct Mill {
 }
 
 impl Model for Mill {
-    ghost use Rattle.mill_model.specs.Mill.{Mill, IsInLimits};
+    ghost use Rattle.mill_model.specs.Mill.{Mill, IsInLimits, mill_of};
 
     ghost Value = { Mill };
 
-    ghost view = { λ m. record { sizes = m.sizes.items; colours = m.colours; colour_limit = m.colour_limit; orders = m.orders.items; yard = m.yard.sizes; bars = m.yard.bars } };
+    ghost view = { λ m. mill_of m.sizes.items m.colours m.colour_limit m.orders.items m.yard };
 
-    ghost invariant = { λ m. IsInLimits (record { sizes = m.sizes.items; colours = m.colours; colour_limit = m.colour_limit; orders = m.orders.items; yard = m.yard.sizes; bars = m.yard.bars }) };
+    ghost invariant = { λ m. IsInLimits (mill_of m.sizes.items m.colours m.colour_limit m.orders.items m.yard) };
 }
 
 impl Mill {
     /// A mill with an empty yard and the colour limit 2. Its numbers are within the limits, and each order's colour is one of
     /// its colours.
     pub fn new(sizes: Vec<u16>, colours: u16, orders: Vec<Order>) -> Mill
-        requires { IsInLimits (record { sizes = sizes.items; colours = colours; colour_limit = 2; orders = orders.items; yard = []; bars = [] }) }
-        ensures { result ≡ record { sizes = sizes.items; colours = colours; colour_limit = 2; orders = orders.items; yard = []; bars = [] } }
+        requires { IsInLimits (bare_mill sizes.items colours orders.items) }
+        ensures { result ≡ bare_mill sizes.items colours orders.items }
     {
         let yard = Yard::new(Vec::new(*sizes.allocator()), Vec::new(*sizes.allocator()));
         Mill {
             sizes,
             colours,
-            colour_limit: 2,
+            colour_limit: USUAL_COLOUR_LIMIT,
             orders,
             yard,
         }
@@ -98,6 +98,19 @@ impl Mill {
         ensures { result ≡ is_barred_from self.now order (Old slab) }
     {
         self.yard.is_barred(order, slab)
+    }
+
+    /// What a slab can hold: its size, or 0 where the yard has no surplus slab of its number.
+    pub fn size_of(&self, kind: Kind) -> u16
+        ensures value { result ≡ size_of_kind self.now kind }
+        ensures small { IsInStock self.now kind → result ≤ most_weight }
+    {
+        // It tells that the listed sizes are within the limits.
+        let _sizes = self.sizes();
+        match kind {
+            Kind::New(size) => size,
+            Kind::Old(slab) => self.yard().get(usize::from(slab)).copied().unwrap_or(0),
+        }
     }
 
     /// Replaces the yard. Its bars are of orders of this mill. All else stays.

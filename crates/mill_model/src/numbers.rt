@@ -8,6 +8,8 @@ pub const MOST_WEIGHT: u16 = 10000;
 pub const MOST_COLOURS: u16 = 250;
 /// The greatest colour limit.
 pub const MOST_COLOUR_LIMIT: u16 = 3;
+/// The colour limit of a mill that was told none.
+pub const USUAL_COLOUR_LIMIT: u16 = 2;
 /// A mill has at most so many orders.
 pub const MOST_ORDERS: u16 = 250;
 /// A yard has at most so many surplus slabs.

@@ -3,12 +3,12 @@ use Rattle.std.proofs.Common.{◌≡◌, ℕ, List, [], ◌∷◌, ◌++◌, len
 use Rattle.std.specs.Prelude.{◌↔◌}
 use Rattle.std.proofs.lemmas.List.Elements.{All-from_recursion, All-nil, recursion_from_All}
 use Rattle.std.specs.List.{AllZip, flat_map, AllByRecursion}
-use Rattle.mill_model.specs.Mill.{Mill, Bar, IsInLimits, IsBetween}
+use Rattle.mill_model.specs.Mill.{Mill, Bar, IsInLimits, IsBetween, bare_mill}
 use Rattle.mill_model.specs.declared.order.Order.{Order}
 use Rattle.mill_read.specs.WordsLeft.{WordsLeft}
 use Rattle.mill_read.specs.Tokens.{Token, Numeral, Spells, numerals}
 use Rattle.mill_read.specs.Reading.{Read, ◌>>=◌, number_at, list_at, no_more}
-use Rattle.mill_read.specs.OrderFile.{order_at, mill_at, order_file, order_tokens, mill_tokens, IsOrderFile, IsBare, bare_mill}
+use Rattle.mill_read.specs.OrderFile.{order_at, mill_at, order_file, order_tokens, mill_tokens, IsOrderFile, IsBare}
 use Rattle.mill_read.specs.declared.fault.Why.TheVariants.{Range, Colour}
 use Rattle.mill_read.proofs.Readers.{Takes, IsReader, ListFits, bind_ok, same_ok, number_reader, list_reader, one_numeral, flat_map-one_numeral, zip_join, zip_parts, whole_join, whole_parts, no_more_ok, last_part}
 

@@ -1,7 +1,7 @@
 -- Order files: the sizes, the number of colours, and the orders of a mill, with a count before each list.
 use Rattle.std.specs.Prelude.{◌≡◌, ℕ, List, [], ◌∷◌, ◌++◌, length, Result, Ok, ◌↔◌}
 use Rattle.std.specs.List.{flat_map}
-use Rattle.mill_model.specs.Mill.{Mill, IsInLimits, most_sizes, most_weight, most_colours, most_orders}
+use Rattle.mill_model.specs.Mill.{Mill, IsInLimits, bare_mill, usual_colour_limit, most_sizes, most_weight, most_colours, most_orders}
 use Rattle.mill_model.specs.declared.order.Order.{Order}
 use Rattle.mill_read.specs.WordsLeft.{WordsLeft}
 use Rattle.mill_read.specs.Tokens.{Token, Numeral, numerals, AreWordsOf}
@@ -16,13 +16,9 @@ order_at colours left = do
   colour ← number_at Colour 1 colours weight.1
   Ok (record { weight = weight.0; colour = colour.0 }, colour.1)
 
--- a mill with an empty yard, which takes two colours on a slab
-abbrev pub bare_mill : List ℕ → ℕ → List Order → Mill
-bare_mill sizes colours orders = record { sizes = sizes; colours = colours; colour_limit = 2; orders = orders; yard = []; bars = [] }
-
 -- an order file says nothing of these
 pub record IsBare (mill : Mill) : Type 0 where
-  pub colour_limit : mill.colour_limit ≡ 2
+  pub colour_limit : mill.colour_limit ≡ usual_colour_limit
   pub yard : mill.yard ≡ []
   pub bars : mill.bars ≡ []
 
@@ -55,4 +51,5 @@ pub record IsOrderFile (bytes : List ℕ) (mill : Mill) : Type 0 where
 
 -- what is read is in the grammar, and what is in the grammar is read
 abbrev pub OrderFilesSpellMills : Type 0
-OrderFilesSpellMills = (bytes : List ℕ) (mill : Mill) → (order_file bytes ≡ Ok mill) ↔ IsOrderFile bytes mill
+OrderFilesSpellMills = (bytes : List ℕ) (mill : Mill) →
+    (order_file bytes ≡ Ok mill) ↔ IsOrderFile bytes mill

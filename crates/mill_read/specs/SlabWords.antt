@@ -14,7 +14,8 @@ old_word = codes "old"
 
 -- the word new is true, and the word old is false
 abbrev pub is_new_in : ℕ → List ℕ → Result Bool TextFault
-is_new_in place word = if bytes_eq word new_word then Ok true else (if bytes_eq word old_word then Ok false else fault place Kind)
+is_new_in place word =
+    if bytes_eq word new_word then Ok true else (if bytes_eq word old_word then Ok false else fault place Kind)
 
 unfoldable pub is_new_at : WordsLeft → Read Bool
 is_new_at left = first_by is_new_in left.number left.words

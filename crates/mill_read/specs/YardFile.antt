@@ -44,7 +44,8 @@ bar_list_tokens bars = Numeral (length bars) ∷ flat_map bar_tokens bars
 -- the words spell the sizes and the bars, or the sizes alone, where there is no bar
 abbrev pub AreWordsOfYard : List ℕ → Yard → Type 0
 AreWordsOfYard bytes yard =
-    AreWordsOf bytes (size_tokens yard.sizes ++ bar_list_tokens yard.bars) ⊎ (AreWordsOf bytes (size_tokens yard.sizes) × (yard.bars ≡ []))
+    AreWordsOf bytes (size_tokens yard.sizes ++ bar_list_tokens yard.bars)
+    ⊎ (AreWordsOf bytes (size_tokens yard.sizes) × (yard.bars ≡ []))
 
 -- the grammar: the words spell this yard, which is within its limits, and its bars are of so many orders
 pub record IsYardFile (orders : ℕ) (bytes : List ℕ) (yard : Yard) : Type 0 where
@@ -54,4 +55,5 @@ pub record IsYardFile (orders : ℕ) (bytes : List ℕ) (yard : Yard) : Type 0 w
 
 -- what is read is in the grammar, and what is in the grammar is read
 abbrev pub YardFilesSpellYards : Type 0
-YardFilesSpellYards = (orders : ℕ) (bytes : List ℕ) (yard : Yard) → orders ≤ most_orders → (yard_file orders bytes ≡ Ok yard) ↔ IsYardFile orders bytes yard
+YardFilesSpellYards = (orders : ℕ) (bytes : List ℕ) (yard : Yard) → orders ≤ most_orders →
+    (yard_file orders bytes ≡ Ok yard) ↔ IsYardFile orders bytes yard

@@ -8,6 +8,9 @@ use crate::words::Words;
 use mill_model::{Kind, Mill, Plan};
 use std::alloc::Global;
 
+// A plan has at most so many slabs.
+const MOST_PLAN_SLABS: u16 = 1000;
+
 // Reads a slab: `new` and its size, or `old` and its number in the yard, which is counted from 1 in a file.
 #[tactic(auto, unfolding(crate::specs::PlanFile::kind_at))]
 fn kind(words: &mut Words<'_>) -> Result<Kind, TextFault>
@@ -73,7 +76,7 @@ pub fn read_plan(alloc: Global, mill: &Mill, bytes: &[u8]) -> Result<Plan, TextE
     ensures places { IfOk result (λ plan. length plan.place ≡ length mill.now.orders) }
 {
     let mut words = Words::new(bytes);
-    let slab_count = words.number(Why::Range, 0, 1000)?;
+    let slab_count = words.number(Why::Range, 0, MOST_PLAN_SLABS)?;
     let kinds = kinds(alloc, &mut words, slab_count)?;
     let places = places(alloc, &mut words, mill.orders().len())?;
     words.end()?;

@@ -10,3 +10,4 @@ pub mod Options
 pub mod LeafRules
 pub mod Answering
 pub mod Packs
+pub mod CheapOrders

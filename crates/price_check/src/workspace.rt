@@ -48,6 +48,9 @@ impl Leaf<'_> {
             IsExceeding self.now.mill.now self.now.trail.now.decisions self.now.quote.now
             (record { kind = kind; orders = workspace.new.picks.orders.items })) }
     {
+        if self.is_cheap() {
+            return None;
+        }
         workspace.space.colours.clear();
         workspace.picks.chosen.clear();
         self.fill_frame(&mut workspace.frame);

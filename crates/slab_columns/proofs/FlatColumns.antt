@@ -2,10 +2,9 @@
 use Rattle.std.proofs.Common.{◌≡◌, ℕ, zero, suc, ◌+◌, ◌-◌, ◌<◌, ◌≤◌, List, [], ◌∷◌, ◌++◌, Some, length, drop, slice_get, slice_range, refl, ap, arith, length-append}
 use Rattle.std.proofs.lemmas.List.{take-append-le, drop-append-le, length-drop, take_all}
 use Rattle.std.proofs.Math.Seq.{drop-append_seam}
-use Rattle.mill_model.specs.Columns.{Column}
+use Rattle.mill_model.specs.Columns.{Column, column_of}
 use Rattle.slab_columns.specs.declared.column.ColId.{ColId}
 use Rattle.slab_columns.specs.declared.flat.Start.{Start}
-use Rattle.slab_columns.specs.Columns.{column_of}
 use Rattle.slab_columns.specs.Flat.{columns_of, end_before, AreLaidOut}
 use Rattle.slab_columns.specs.Recency.{AreBelow}
 

@@ -2,8 +2,7 @@
 use Rattle.std.proofs.Common.{◌≡◌, [], ◌∷◌, refl, Contains, rules, arith}
 use Rattle.mill_model.specs.declared.kind.Kind.TheVariants.{New}
 use Rattle.mill_model.specs.Mill.{Mill}
-use Rattle.mill_model.specs.Columns.{IsLegalColumn}
-use Rattle.slab_columns.specs.Columns.{column_of}
+use Rattle.mill_model.specs.Columns.{IsLegalColumn, column_of}
 
 -- sizes 4 and 10, two orders of weight 4 and one colour
 abbrev pub two_orders : Mill

@@ -1,7 +1,6 @@
 -- Columns one after the other in one list of orders.
 use Rattle.std.specs.Prelude.{ℕ, ◌≤◌, List, [], ◌∷◌, length, slice_range}
-use Rattle.mill_model.specs.Columns.{Column}
-use Rattle.slab_columns.specs.Columns.{column_of}
+use Rattle.mill_model.specs.Columns.{Column, column_of}
 use Rattle.slab_columns.specs.declared.flat.Start.{Start}
 
 -- where the orders before these columns end: where the first of these begins, or the end of all

@@ -1,5 +1,4 @@
 pub mod Pool
-pub mod Columns
 pub mod Flat
 pub mod Index
 pub mod Recency

@@ -1,7 +1,7 @@
 // Columns one after the other in one list of orders.
 ghost use Rattle.std.specs.Prelude.{◌≡◌, ◌↔◌, ℕ, ◌+◌, ◌<◌, ◌≤◌, ◌++◌, ◌∷◌, [], drop, length, slice_get, All, Contains, IfSome, IfNone, IsTrue, Some, vec_len};
 ghost use Rattle.std.specs.Vec.{vec_capacity};
-ghost use Rattle.slab_columns.specs.Columns.{column_of, lent_column};
+ghost use Rattle.mill_model.specs.Columns.{column_of, lent_column};
 ghost use Rattle.slab_columns.specs.Flat.{AreLaidOut, columns_of, end_before};
 
 use crate::Column;

@@ -1,6 +1,6 @@
 // From a column's key to the numbers of the columns that have this key.
 ghost use Rattle.std.specs.Prelude.{◌≡◌, ◌==◌, ℕ, ◌++◌, ◌∷◌, [], OnErr, OnOk, if◌then◌else◌};
-ghost use Rattle.slab_columns.specs.Columns.{column_of};
+ghost use Rattle.mill_model.specs.Columns.{column_of};
 ghost use Rattle.slab_columns.specs.Index.{key_of, ids_at};
 
 use indexmap::IndexMap;

@@ -14,8 +14,9 @@ mod pool;
 mod tests;
 
 pub use add_error::AddError;
-pub use column::{ColId, Column};
+pub use column::ColId;
 pub use fulls::Fulls;
+pub use mill_model::Column;
 pub use pool::Pool;
 // A crate can name a pool in a contract only if the types of its fields are exported.
 #[doc(hidden)]

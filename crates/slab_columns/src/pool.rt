@@ -1,7 +1,6 @@
 ghost use Rattle.std.specs.Prelude.{◌≡◌, ◌≢◌, ◌<◌, ◌≤◌, ◌↔◌, ◌++◌, ◌∷◌, [], Contains, IfOk, IfSome, IfNone, IsOk, IsTrue, OnErr, OnOk, Err, Some, length, slice_get};
-ghost use Rattle.mill_model.specs.Columns.{IsLegalColumn};
+ghost use Rattle.mill_model.specs.Columns.{IsLegalColumn, column_of, lent_column};
 ghost use Rattle.slab_counter.specs.Counter.{next_count};
-ghost use Rattle.slab_columns.specs.Columns.{column_of, lent_column};
 ghost use Rattle.slab_columns.specs.Index.{key_of};
 ghost use Rattle.slab_columns.specs.Recency.{AreBelow};
 

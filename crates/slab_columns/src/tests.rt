@@ -1,6 +1,5 @@
 ghost use Rattle.std.specs.Prelude.{◌≡◌, [], ◌∷◌, IfOk};
-ghost use Rattle.mill_model.specs.Columns.{IsLegalColumn};
-ghost use Rattle.slab_columns.specs.Columns.{column_of};
+ghost use Rattle.mill_model.specs.Columns.{IsLegalColumn, column_of};
 
 use crate::{AddError, ColId, Fulls, Pool};
 use mill_model::{Kind, Mill, Order};

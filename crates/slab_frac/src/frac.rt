@@ -186,8 +186,8 @@ impl Frac {
         reduced(num, den, wides)
     }
 
-    /// This less the product of two others, reduced once: none where the result or the product is out of range, which
-    /// is counted. A product out of range needs no end in none, since the result is computed in 128 bits.
+    /// This less the product of two others, reduced once: none only where the result or the product is out of range, which
+    /// is counted. Where the product alone is, there may still be a result, since the difference is taken in 128 bits.
     #[inline(always)]
     pub fn minus_product(&self, factor: &Frac, other: &Frac, wides: &mut Wides) -> Option<Frac>
         ensures exact { IsExactlyLess self.now (product_of factor.now other.now) result }

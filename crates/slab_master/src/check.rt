@@ -14,13 +14,14 @@ use slab_frac::{Frac, Wides, scale_all};
 // What a test of an answer found.
 #[derive(Clone, Copy)]
 pub(crate) enum Tested {
-    /// It holds, as the whole numbers over this denominator show.
+    // It holds, as the whole numbers over this denominator show.
     Holds(i64),
     Fails,
     Wide,
 }
 
 // The product of two numbers.
+#[inline]
 pub(crate) fn term(number: i64, entry: i64) -> i128
     ensures { result ≡ number *ℤ entry }
 {

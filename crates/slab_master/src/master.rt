@@ -24,7 +24,7 @@ pub struct Master {
     working: Vec<Vec<Frac>>,
     basis: Basis,
 
-    /// The columns that were basic at the end of the solve before, or that were hinted since.
+    // The columns that were basic at the end of the solve before, or that were hinted since.
     likely: Vec<usize>,
 }
 

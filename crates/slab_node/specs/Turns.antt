@@ -1,5 +1,5 @@
 -- What one node's turn is asked and what it answers.
-use Rattle.std.specs.Prelude.{◌≡◌, ℕ, ◌⊎◌, Bool, List, []}
+use Rattle.std.specs.Prelude.{◌≡◌, ℕ, Bool, List, []}
 use Rattle.mill_model.specs.declared.ask.Ask.{Ask}
 use Rattle.mill_model.specs.declared.limits.Limits.{Limits}
 use Rattle.mill_model.specs.Mill.{Mill}
@@ -9,7 +9,7 @@ use Rattle.mill_model.specs.Prices.{Prices, Refutes}
 use Rattle.mill_model.specs.Covers.{Part, IsCover}
 use Rattle.mill_model.specs.Decisions.{Decision, IsAsk, PlanAgrees}
 use Rattle.mill_model.specs.Assignments.{Follows}
-use Rattle.slab_columns.specs.Pool.{Pool, HasGrown}
+use Rattle.slab_columns.specs.Pool.{Pool}
 use Rattle.slab_decide.specs.Decided.{Decisions}
 use Rattle.slab_relax.specs.declared.tally.Tally.{Tally}
 use Rattle.slab_relax.specs.Nodes.{BelongTogether}
@@ -23,9 +23,12 @@ pub record IsNode (m : Mill) (listed : List ℕ) (decisions : Decisions) (limits
   pub together : BelongTogether m listed decisions limits
   pub pool : columns.mill ≡ m
 
--- a pool as it was, or emptied before columns joined it
-abbrev pub IsRenewed : Pool → Pool → Type 0
-IsRenewed old new = (new ≡ old) ⊎ HasGrown (record old { columns = [] }) new
+-- a pool of more columns is emptied before a relaxation
+abbrev pub most_columns : ℕ
+most_columns = 4096
+
+abbrev pub emptied : Pool → Pool
+emptied pool = record pool { columns = [] }
 
 -- ---- what an answer carries
 

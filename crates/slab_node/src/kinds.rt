@@ -1,7 +1,6 @@
 //! The slabs of groups: a group's surplus slab, or else a new slab of the least size that holds it.
 ghost use Rattle.std.specs.Prelude.{◌≡◌, ◌≤◌, IfOk, length};
 ghost use Rattle.mill_model.specs.declared.kind.Kind.{Kind};
-ghost use Rattle.mill_model.specs.Columns.{IsInStock, size_of};
 ghost use Rattle.pricing_laws.specs.Groupings.{AreBefore, AreWeights};
 ghost use Rattle.slab_node.specs.Grouped.{AreGrouped, IsNewFor, IsKindFor, AreKinds};
 
@@ -33,19 +32,6 @@ pub(crate) fn weights_of(alloc: Global, mill: &Mill, heads: &[u16]) -> Result<Ve
     let mut weights = vec![in alloc; 0; mill.orders().len()]?;
     weigh(mill, heads, &mut weights);
     Ok(weights)
-}
-
-// The size of a slab.
-pub(crate) fn size_of(mill: &Mill, kind: Kind) -> u16
-    requires { IsInStock mill.now kind }
-    ensures value { result ≡ size_of mill.now kind }
-    ensures small { result ≤ 10000 }
-{
-    let _sizes = mill.sizes();
-    match kind {
-        Kind::New(size) => size,
-        Kind::Old(slab) => mill.yard()[slab as usize],
-    }
 }
 
 // The least listed size that holds a load, or some listed size where none does.

@@ -7,7 +7,7 @@ ghost use Rattle.pricing_laws.specs.Groupings.{AreBefore};
 ghost use Rattle.slab_node.specs.Grouped.{group_column};
 ghost use Rattle.slab_node.specs.Stated.{AreAtHeads, only, group_loss, group_count, free_prices};
 
-use crate::kinds::{size_of, weights_of};
+use crate::kinds::weights_of;
 use mill_model::{Kind, Mill, Prices};
 use std::alloc::{AllocError, Global};
 
@@ -67,7 +67,7 @@ pub(crate) fn losses_of(
     let mut pi = Vec::with_capacity(alloc, count)?;
     for (order, head) in heads.iter().enumerate() {
         if *head as usize == order {
-            let size = size_of(mill, kinds[order]);
+            let size = mill.size_of(kinds[order]);
             pi.push(i64::from(size) - i64::from(weights[order]))?;
         } else {
             pi.push(0)?;

@@ -9,7 +9,7 @@ ghost use Rattle.slab_relax.specs.PoolCovers.{IsPoolCover, HasLeastLoss};
 ghost use Rattle.slab_relax.specs.AtNodes.{RefutesAt, IsCoverAt, HasLeastLossAt};
 ghost use Rattle.slab_relax.specs.Tallies.{AreNoLess, HasCause};
 ghost use Rattle.slab_node.specs.AtNodes.{IsInBoxAt, IsOpenAskAt};
-ghost use Rattle.slab_node.specs.Turns.{IsNode, IsRenewed, IsInBox, IsOpenAsk, IfRefuted, IfInBox, IfSpread, IfBare, IfAsks, IsRefuted, IsClosed, IsTurn};
+ghost use Rattle.slab_node.specs.Turns.{most_columns, emptied, IsNode, IsInBox, IsOpenAsk, IfRefuted, IfInBox, IfSpread, IfBare, IfAsks, IsRefuted, IsClosed, IsTurn};
 
 use crate::choose::{Choice, choose};
 use crate::plain::plain_prices;
@@ -22,8 +22,18 @@ use slab_decide::Decisions;
 use slab_relax::{Node, Relaxed, relax};
 use std::alloc::{AllocError, Global};
 
-// A pool of more columns is emptied before a turn.
+// A pool of more columns is emptied before a relaxation.
 const MOST_COLUMNS: usize = 4096;
+
+// Empties a pool of too many columns.
+fn make_room(pool: &mut Pool)
+    ensures emptied { most_columns < length pool.old.columns → pool.new ≡ emptied pool.old }
+    ensures kept { length pool.old.columns ≤ most_columns → pool.new ≡ pool.old }
+{
+    if pool.len() > MOST_COLUMNS {
+        pool.restart();
+    }
+}
 
 // The turn of a node with a question that doesn't follow.
 fn turn_open(
@@ -62,7 +72,7 @@ fn turn_open(
 /// One node's turn. It answers prices that refute the limits under the decisions, a plan within them, or a fractional cover,
 /// which shows that no prices refute them, with an ask to split on. Where a counter of the tally rose or stands at its last
 /// value, neither prices nor a cover may come. The pool may hold any columns of the mill; columns join it, and one of more
-/// than 4,096 columns may be emptied first.
+/// than 4,096 columns is emptied before the relaxation.
 ///
 /// The only error is want of memory: the pool may have changed as above, and the counters may have risen.
 pub fn turn(
@@ -100,8 +110,7 @@ pub fn turn(
     // What a turn changes, also where memory is wanting.
     ensures counters { AreNoLess tally.old tally.new }
     ensures mill { pool.new.mill ≡ mill.now }
-    ensures grown { length pool.old.columns ≤ 4096 → HasGrown pool.old pool.new }
-    ensures renewed { 4096 < length pool.old.columns → IsRenewed pool.old pool.new }
+    ensures grown { length pool.old.columns ≤ most_columns → HasGrown pool.old pool.new }
 
     // Settled decisions and limits that plain prices refute need no pool.
     ensures unused { AreSettled mill.now decisions.now.list → pool.new ≡ pool.old }
@@ -119,8 +128,6 @@ pub fn turn(
     let Some(first) = decisions.first_open() else {
         return settle(alloc, &node);
     };
-    if pool.len() > MOST_COLUMNS {
-        pool.restart();
-    }
+    make_room(pool);
     turn_open(alloc, &node, first, pool, tally)
 }

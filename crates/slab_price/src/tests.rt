@@ -1,7 +1,8 @@
 //! Answers that a reader can compute by hand, for one mill: three orders of weight 3 and of three colours, new slabs of size 9,
 //! and a surplus slab of size 3 on which the first order mustn't lie. Loss costs 1 a unit, and the last two orders are worth 4.
-ghost use Rattle.std.specs.Prelude.{◌≡◌, pos, ◌≤ℤ◌, IfOk, length};
-ghost use Rattle.mill_model.specs.Mill.{IsBetween};
+//! A second mill has three orders of weight 5 and of one colour, and new slabs of size 10.
+ghost use Rattle.std.specs.Prelude.{◌≡◌, ◌≤◌, pos, ◌≤ℤ◌, IfOk, [], length};
+ghost use Rattle.mill_model.specs.Mill.{IsBetween, most_slabs};
 
 use crate::worst;
 use loss_table::LossTable;
@@ -45,12 +46,13 @@ fn prices_of(alloc: Global, mu: i8, first: i8, sigma: i8) -> Result<Prices, Allo
     Ok(Prices::new(1, i64::from(mu), pi, slabs))
 }
 
-// No decision, or that the first two orders lie apart.
-fn decisions_of(alloc: Global, apart: bool) -> Result<Decisions, AllocError>
+// No decision, or that the first two orders lie apart, beside so many surplus slabs.
+fn decisions_of(alloc: Global, slabs: u16, apart: bool) -> Result<Decisions, AllocError>
+    requires { slabs ≤ most_slabs }
     ensures orders { IfOk result (λ decisions. decisions.orders ≡ 3) }
-    ensures yard { IfOk result (λ decisions. decisions.yard ≡ 1) }
+    ensures yard { IfOk result (λ decisions. decisions.yard ≡ slabs) }
 {
-    let mut decisions = Decisions::new(alloc, 3, 1)?;
+    let mut decisions = Decisions::new(alloc, 3, slabs)?;
     if apart {
         let _ = decisions.pair(0, 1, false);
     }
@@ -89,7 +91,7 @@ fn found_for(
     requires { IsBetween 1 3 colours }
 {
     let mill = mill_of(alloc, colours)?;
-    let decisions = decisions_of(alloc, apart)?;
+    let decisions = decisions_of(alloc, 1, apart)?;
     let prices = prices_of(alloc, mu, first, sigma)?;
     found(alloc, &mill, &decisions, &prices)
 }
@@ -122,5 +124,50 @@ fn leaves_out_an_order_of_negative_price(rt: HostRuntime) -> Result<(), Fail> {
 #[test]
 fn finds_nothing_that_costs_as_much(rt: HostRuntime) -> Result<(), Fail> {
     assert!(rt; found_for(rt.alloc(), 2, false, 20, 4, 4)? == (0, 0, Kind::New(0)));
+    Ok(())
+}
+
+// The second mill.
+fn mill_of_pairs(alloc: Global) -> Result<Mill, AllocError>
+    ensures orders { IfOk result (λ mill. length mill.orders ≡ 3) }
+    ensures yard { IfOk result (λ mill. mill.yard ≡ []) }
+{
+    let order = Order {
+        weight: 5,
+        colour: 1,
+    };
+    let sizes = vec![in alloc; 10]?;
+    let orders = vec![in alloc; order, order, order]?;
+    Ok(Mill::new(sizes, 1, orders))
+}
+
+// The prices there, of the first two orders and of the last one; new slabs are free.
+fn prices_of_pairs(alloc: Global, first: i8, last: i8) -> Result<Prices, AllocError>
+    ensures lambda { IfOk result (λ prices. pos 0 ≤ℤ prices.lambda) }
+    ensures pi { IfOk result (λ prices. length prices.pi ≡ 3) }
+    ensures sigma { IfOk result (λ prices. prices.sigma ≡ []) }
+{
+    let (first, last) = (i64::from(first), i64::from(last));
+    let pi = vec![in alloc; first, first, last]?;
+    Ok(Prices::new(1, 0, pi, Vec::new(alloc)))
+}
+
+// What pricing finds there.
+fn found_in_pairs(
+    alloc: Global,
+    apart: bool,
+    first: i8,
+    last: i8,
+) -> Result<(i128, usize, Kind), AllocError> {
+    let mill = mill_of_pairs(alloc)?;
+    let decisions = decisions_of(alloc, 0, apart)?;
+    let prices = prices_of_pairs(alloc, first, last)?;
+    found(alloc, &mill, &decisions, &prices)
+}
+
+#[test]
+fn finds_the_pair_that_fills_a_slab(rt: HostRuntime) -> Result<(), Fail> {
+    assert!(rt; found_in_pairs(rt.alloc(), false, 4, 4)? == (8, 2, Kind::New(10)));
+    assert!(rt; found_in_pairs(rt.alloc(), true, 5, -5)? == (0, 0, Kind::New(0)));
     Ok(())
 }

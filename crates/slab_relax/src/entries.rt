@@ -1,23 +1,11 @@
 //! A column as the master sees it.
 ghost use Rattle.std.specs.Prelude.{◌≡◌, ◌≤◌, ◌++◌, OnOk};
-ghost use Rattle.mill_model.specs.Columns.{IsLegalColumn, IsInStock, loss_of, size_of};
+ghost use Rattle.mill_model.specs.Columns.{IsLegalColumn, IsInStock, loss_of, column_of};
 ghost use Rattle.slab_master.specs.Given.{IsColumn};
-ghost use Rattle.slab_columns.specs.Columns.{column_of};
 ghost use Rattle.slab_relax.specs.Rows.{row_count, order_entries, slab_entries, loss_entries, count_entries, entries_of};
 
 use mill_model::{Kind, Limits, Mill};
 use std::alloc::AllocError;
-
-// The size of a slab.
-fn size_of(mill: &Mill, kind: Kind) -> u16
-    requires { IsInStock mill.now kind }
-    ensures { result ≡ size_of mill.now kind }
-{
-    match kind {
-        Kind::New(size) => size,
-        Kind::Old(slab) => mill.yard()[slab as usize],
-    }
-}
 
 // What no order of the column takes of its slab.
 #[tactic(auto, using(crate::proofs::Putting::below_high, crate::proofs::Putting::load_more))]
@@ -27,7 +15,7 @@ pub(crate) fn loss_of(mill: &Mill, kind: Kind, orders: &[u16]) -> u16
     ensures small { result ≤ 10000 }
 {
     let all = mill.orders();
-    let mut rest = size_of(mill, kind);
+    let mut rest = mill.size_of(kind);
     for &order in orders {
         rest -= all[order as usize].weight;
     }

@@ -1,7 +1,6 @@
 //! The restricted master of a node.
 ghost use Rattle.std.specs.Prelude.{◌≡◌, ◌++◌, ◌∷◌, [], IfOk, OnOk};
-ghost use Rattle.mill_model.specs.Columns.{IsLegalColumn};
-ghost use Rattle.slab_columns.specs.Columns.{column_of};
+ghost use Rattle.mill_model.specs.Columns.{IsLegalColumn, column_of};
 ghost use Rattle.slab_relax.specs.Rows.{rows_of, entries_of};
 
 use crate::Node;

@@ -50,25 +50,25 @@ pub(crate) struct Basis {
     // The reduced costs of the unit columns, and less the value of the aim in the place of the right side.
     pub(crate) reduced: Vec<Frac>,
 
-    /// What the reduced costs are of.
+    // What the reduced costs are of.
     aim: Aim,
 
-    /// The entering column by the basis, with its reduced cost at the end.
+    // The entering column by the basis, with its reduced cost at the end.
     direction: Vec<Frac>,
 
-    /// Room for the row that a pivot takes out.
+    // Room for the row that a pivot takes out.
     taken: Vec<Frac>,
 
-    /// Room for a whole number for each row.
+    // Room for a whole number for each row.
     scaled: Vec<i64>,
 
-    /// How many pivots in a row moved nothing.
+    // How many pivots in a row moved nothing.
     idle: usize,
 
-    /// Whether preferred columns enter first.
+    // Whether preferred columns enter first.
     prefers: bool,
 
-    /// Whether the working rows stand as an answer left them.
+    // Whether the working rows stand as an answer left them.
     stands: bool,
 }
 

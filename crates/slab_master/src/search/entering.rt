@@ -1,5 +1,6 @@
 //! The choice of what enters: by the reduced costs of the unit columns, brought to whole numbers over one denominator.
 
+use crate::check::term;
 use crate::given::Sense;
 use crate::problem::Problem;
 use crate::search::basic::Basic;
@@ -19,12 +20,6 @@ pub(crate) struct Pricing<'a> {
 struct Entering {
     basic: Basic,
     cost: i128,
-}
-
-// The product of two numbers.
-#[inline]
-fn term(number: i64, entry: i64) -> i128 {
-    number as i128 * entry as i128
 }
 
 // The reduced cost of a column.

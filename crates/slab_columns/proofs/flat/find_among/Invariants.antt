@@ -1,5 +1,5 @@
 use Rattle.std.proofs.Common.{◌≡◌, ℕ, ◌<◌, Some, slice_get, get_or}
-use Rattle.slab_columns.specs.Columns.{column_of}
+use Rattle.mill_model.specs.Columns.{column_of}
 use Rattle.slab_columns.specs.Flat.{columns_of}
 use Rattle.slab_columns.proofs.flat.find_among.Given as goal
 

@@ -1,6 +1,5 @@
 use Rattle.std.proofs.Common.{◌≡◌, ◌+◌, drop}
-use Rattle.mill_model.specs.Columns.{loss_of, load}
-use Rattle.slab_columns.specs.Columns.{column_of}
+use Rattle.mill_model.specs.Columns.{loss_of, load, column_of}
 use Rattle.slab_relax.proofs.entries.loss_of.Given as goal
 
 abbrev pub invariant-loop-order : goal.invariant-loop-order

@@ -1,7 +1,6 @@
 use Rattle.std.proofs.Common.{rules, ◌≡◌, ◌≤◌, sym, subst, arith}
-use Rattle.mill_model.specs.Columns.{loss_of}
+use Rattle.mill_model.specs.Columns.{loss_of, column_of}
 use Rattle.slab_master.specs.Given.{IsColumn}
-use Rattle.slab_columns.specs.Columns.{column_of}
 use Rattle.slab_relax.specs.Rows.{row_count, entries_of}
 use Rattle.slab_relax.proofs.Putting.{put_together, is_master_column}
 use Rattle.slab_relax.proofs.entries.put_entries.Goals as goal

@@ -1,7 +1,6 @@
 use Rattle.std.proofs.Common.{◌≡◌, ◌<◌, ◌+◌, ◌++◌, ◌∷◌, [], List, length, refl, sym, subst, ap, arith, ◌∙◌, Contains, length-append}
-use Rattle.mill_model.specs.Columns.{Column, IsLegalColumn}
+use Rattle.mill_model.specs.Columns.{Column, IsLegalColumn, column_of}
 use Rattle.slab_columns.specs.declared.column.ColId.{ColId}
-use Rattle.slab_columns.specs.Columns.{column_of}
 use Rattle.slab_columns.specs.Flat.{columns_of}
 use Rattle.slab_columns.specs.Index.{key_of}
 use Rattle.slab_columns.specs.Recency.{AreBelow}

@@ -1,8 +1,7 @@
 use Rattle.std.proofs.Common.{rules, ◌≡◌, [], ◌∷◌, false, All, get_or, take, sym, ap, ◌∙◌, subst, refl}
 use Rattle.std.proofs.lemmas.List.{take_all, take_more}
 use Rattle.std.proofs.lemmas.List.Elements.{All-append, All-cons, All-nil}
-use Rattle.mill_model.specs.Columns.{Column, has}
-use Rattle.slab_columns.specs.Columns.{lent_column}
+use Rattle.mill_model.specs.Columns.{Column, has, lent_column}
 use Rattle.slab_columns.specs.declared.column.ColId.{ColId}
 use Rattle.slab_frac.specs.Fraction.{Fraction}
 use Rattle.slab_relax.specs.PoolCovers.{column_at}

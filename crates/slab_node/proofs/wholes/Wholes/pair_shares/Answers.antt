@@ -1,7 +1,6 @@
 use Rattle.std.proofs.Common.{rules, ◌≡◌, ◌^◌, ◌<◌, ◌≤◌, pos, length, get_or, sym, ap, ◌∙◌, arith}
 use Rattle.std.specs.Prelude.{unsigned_abs}
-use Rattle.mill_model.specs.Columns.{has}
-use Rattle.slab_columns.specs.Columns.{lent_column}
+use Rattle.mill_model.specs.Columns.{has, lent_column}
 use Rattle.slab_columns.specs.declared.column.ColId.{ColId}
 use Rattle.slab_frac.specs.Fraction.{Fraction}
 use Rattle.slab_relax.specs.PoolCovers.{column_at}

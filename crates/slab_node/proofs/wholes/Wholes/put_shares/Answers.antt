@@ -2,8 +2,7 @@ use Rattle.std.proofs.Common.{rules, ◌≡◌, ◌+◌, ◌^◌, ◌<◌, ◌�
 use Rattle.std.specs.Prelude.{unsigned_abs}
 use Rattle.mill_model.specs.declared.kind.Kind.{Kind}
 use Rattle.mill_model.specs.Mill.{Mill}
-use Rattle.mill_model.specs.Columns.{has, is_old, IsInStock}
-use Rattle.slab_columns.specs.Columns.{lent_column}
+use Rattle.mill_model.specs.Columns.{has, is_old, IsInStock, lent_column}
 use Rattle.slab_columns.specs.declared.column.ColId.{ColId}
 use Rattle.slab_frac.specs.Fraction.{Fraction}
 use Rattle.slab_relax.specs.PoolCovers.{column_at}

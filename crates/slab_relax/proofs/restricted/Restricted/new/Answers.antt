@@ -1,6 +1,6 @@
 use Rattle.std.proofs.Common.{◌≡◌, ◌<◌, ◌+◌, ◌++◌, ◌∷◌, [], length, take, sym, ◌∙◌, arith}
 use Rattle.std.proofs.lemmas.List.{length-take}
-use Rattle.slab_columns.specs.Columns.{lent_column}
+use Rattle.mill_model.specs.Columns.{lent_column}
 use Rattle.slab_relax.proofs.Allowed.{one_more, master_grows, master_stays, ids_grow, ids_stay}
 use Rattle.slab_relax.proofs.restricted.Restricted.new.Goals as goal
 use Rattle.slab_relax.proofs.restricted.Restricted.new.Goals.{then-allows+in_ok-put, else-allows}

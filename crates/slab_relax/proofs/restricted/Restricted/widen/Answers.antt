@@ -1,6 +1,5 @@
 use Rattle.std.proofs.Common.{rules, ◌≡◌, ◌++◌, ◌∷◌, [], length}
-use Rattle.mill_model.specs.Columns.{Column}
-use Rattle.slab_columns.specs.Columns.{column_of}
+use Rattle.mill_model.specs.Columns.{Column, column_of}
 use Rattle.slab_relax.proofs.Allowed.{master_grows, ids_grow}
 use Rattle.slab_relax.proofs.restricted.Restricted.widen.Goals as goal
 
