@@ -1,6 +1,7 @@
 //! The sets of colours, one after the other.
 ghost use Rattle.std.specs.Prelude.{◌≡◌, ◌+◌, ◌^◌, ◌≤◌, ℕ, pos, ◌≤ℤ◌, true, List, unsigned_abs, length, [], IfNone, vec_capacity};
 ghost use Rattle.std.specs.Bool.{OnTrue};
+ghost use Rattle.mill_model.specs.Mill.{most_colour_limit};
 ghost use Rattle.mill_model.specs.Columns.{has};
 ghost use Rattle.pricing_laws.specs.Colours.{AreOf};
 ghost use Rattle.pricing_laws.specs.Parts.{left_of};
@@ -16,7 +17,7 @@ use crate::hunt::Hunt;
 use crate::picks::Picks;
 use crate::queue::Queue;
 use crate::search::Search;
-use mill_model::Kind;
+use mill_model::{Kind, MOST_COLOUR_LIMIT};
 use std::alloc::{AllocError, Global};
 
 // A set of colours that is gone through, and room for its groups.
@@ -24,14 +25,14 @@ use std::alloc::{AllocError, Global};
 pub(crate) struct Space {
     pub colours: Vec<u16>,
     pub queue: Queue,
-    ghost room: { 3 ≤ vec_capacity colours },
+    ghost room: { most_colour_limit ≤ vec_capacity colours },
 }
 
 impl Space {
     // No colour yet.
     pub(crate) fn new(alloc: Global, queue: Queue) -> Result<Space, AllocError> {
         Ok(Space {
-            colours: Vec::with_capacity(alloc, 3)?,
+            colours: Vec::with_capacity(alloc, usize::from(MOST_COLOUR_LIMIT))?,
             queue,
         })
     }
@@ -56,7 +57,7 @@ impl Search<'_> {
     // Whether no column of the colours taken and of some of those left exceeds.
     fn is_hopeless(&self, rank: usize, left: u16, worth: i128) -> bool
         requires rank { rank ≤ length self.now.frame.now.ranking.items }
-        requires left { left ≤ 3 }
+        requires left { left ≤ most_colour_limit }
         requires small { unsigned_abs worth ≤ 2 ^ 100 }
         ensures { (taken : List ℕ) → AreTakenFrom (search_of self.now) rank taken worth
             → OnTrue result

@@ -1,6 +1,7 @@
 //! Leaves that a reader can compute by hand, for one mill: three orders of weight 3 and of three colours, new slabs of size 9,
-//! and a surplus slab of size 3 on which the first order mustn't lie. The loss is limited by 2.
-ghost use Rattle.std.specs.Prelude.{◌≡◌, IfOk, length};
+//! and a surplus slab of size 3 on which the first order mustn't lie. The loss is limited by 2. A second mill has three orders
+//! of weight 5 and of one colour, and new slabs of size 10.
+ghost use Rattle.std.specs.Prelude.{◌≡◌, IfOk, [], length};
 ghost use Rattle.mill_model.specs.Mill.{IsBetween};
 
 use crate::{Bad, Path};
@@ -45,6 +46,8 @@ fn numbers_of(text: &[u8]) -> Option<Nums<'_>> {
 fn broken(path: &mut Path, mill: &Mill, text: &[u8]) -> Option<Bad>
     requires orders { path.old.orders ≡ length mill.now.orders }
     requires slabs { path.old.slabs ≡ length mill.now.yard }
+    ensures orders { path.new.orders ≡ path.old.orders }
+    ensures slabs { path.new.slabs ≡ path.old.slabs }
 {
     let numbers = numbers_of(text)?;
     let limits = Limits {
@@ -119,13 +122,53 @@ fn a_column_exceeds_on_the_surplus_slab(rt: HostRuntime) -> Result<(), Fail> {
     Ok(())
 }
 
+// What a path with the first two orders together answers to a leaf's line, and then one with them apart to another.
+fn broken_in_pairs(
+    alloc: Global,
+    together: &[u8],
+    apart: &[u8],
+) -> Result<(Option<Bad>, Option<Bad>), AllocError> {
+    let mill = mill_of_pairs(alloc)?;
+    let mut path = Path::new(alloc, &mill)?;
+    path.push(Ask::Pair(0, 1));
+    let first = broken(&mut path, &mill, together);
+    path.next_branch();
+    Ok((first, broken(&mut path, &mill, apart)))
+}
+
+// The second mill.
+fn mill_of_pairs(alloc: Global) -> Result<Mill, AllocError>
+    ensures orders { IfOk result (λ mill. length mill.orders ≡ 3) }
+    ensures yard { IfOk result (λ mill. mill.yard ≡ []) }
+{
+    let order = Order {
+        weight: 5,
+        colour: 1,
+    };
+    let sizes = vec![in alloc; 10]?;
+    let orders = vec![in alloc; order, order, order]?;
+    Ok(Mill::new(sizes, 1, orders))
+}
+
 #[test]
-fn a_question_stands_once_on_a_path(rt: HostRuntime) -> Result<(), Fail> {
-    let mill = mill_of(rt.alloc(), 2)?;
+fn leaves_of_both_answers(rt: HostRuntime) -> Result<(), Fail> {
+    assert!(rt;
+        broken_in_pairs(rt.alloc(), b"leaf 1 0 0 0 5\n", b"leaf 1 0 5 5 -5\n")? == (None, None)
+    );
+    Ok(())
+}
+
+#[test]
+fn walks_down_a_tree(rt: HostRuntime) -> Result<(), Fail> {
+    let mill = mill_of_pairs(rt.alloc())?;
     let mut path = Path::new(rt.alloc(), &mill)?;
     assert!(rt; path.push(Ask::Pair(0, 1)));
+    assert!(rt; path.agrees(Kind::New(10), &[0, 1]) && !path.agrees(Kind::New(10), &[0, 2]));
+    assert!(rt; path.next_branch());
     assert!(rt; !path.push(Ask::Pair(0, 1)));
+    assert!(rt; !path.agrees(Kind::New(10), &[0, 1]));
     path.clear();
-    assert!(rt; path.push(Ask::Pair(0, 1)));
+    assert!(rt; path.agrees(Kind::New(10), &[0, 1]));
+    assert!(rt; !path.next_branch());
     Ok(())
 }

@@ -12,6 +12,7 @@ pub mod Rankings
 pub mod Chains
 pub mod Gathering
 pub mod Hunting
+pub mod Steps
 pub mod Packs
 pub mod Ranks
 pub mod Products

@@ -12,7 +12,8 @@ use Rattle.pricing_laws.specs.Parts.{IsPart, left_of}
 
 -- the slab costs no less than this with its sign turned, if it holds the load
 abbrev pub IsEndOf : Mill → Prices → ℕ → Kind → ℤ → Type 0
-IsEndOf m p load kind end = IsInStock m kind → load ≤ size_of m kind → (pos 0 -ℤ cost_of m p kind) ≤ℤ end
+IsEndOf m p load kind end =
+    IsInStock m kind → load ≤ size_of m kind → (pos 0 -ℤ cost_of m p kind) ≤ℤ end
 
 -- for each load, no less than what a slab that holds it costs, with its sign turned
 pub record AreEnds (m : Mill) (p : Prices) (ends : List ℤ) : Type 0 where
@@ -20,12 +21,15 @@ pub record AreEnds (m : Mill) (p : Prices) (ends : List ℤ) : Type 0 where
   pub some : 0 < length ends
   pub narrow : length ends ≤ most_weight + 1
   pub least : (load : ℕ) (kind : Kind) → IsEndOf m p load kind (slice_index_or ends load (pos 0))
-  pub small : (load : ℕ) → load < length ends → unsigned_abs (slice_index_or ends load (pos 0)) ≤ 2 ^ 100
+  pub small : (load : ℕ) → load < length ends
+      → unsigned_abs (slice_index_or ends load (pos 0)) ≤ 2 ^ 100
 
 -- no part of the groups left gains more than this beside a load, less the cost of a slab that holds both
 abbrev pub IsMost : Mill → Prices → Groups → List ℕ → ℕ → ℤ → Type 0
 IsMost m p g left load most =
-    (more : List ℕ) (kind : Kind) → IsPart more left → IsInStock m kind → load + sum_by (weight_at g) more ≤ size_of m kind → (total_by (gain_at g) more -ℤ cost_of m p kind) ≤ℤ most
+    (more : List ℕ) (kind : Kind) → IsPart more left → IsInStock m kind
+    → load + sum_by (weight_at g) more ≤ size_of m kind
+    → (total_by (gain_at g) more -ℤ cost_of m p kind) ≤ℤ most
 
 -- ---- a table
 
@@ -49,10 +53,13 @@ pub record IsEnd (ends : List ℤ) (size : ℕ) (value : ℤ) : Type 0 where
 
 -- the entries of a table are small enough to be added to
 abbrev pub AreSmall : List ℤ → Type 0
-AreSmall table = (k : ℕ) → k < length table → unsigned_abs (slice_index_or table k (pos 0)) ≤ 2 ^ 100 + k * 2 ^ 84
+AreSmall table =
+    (k : ℕ) → k < length table → unsigned_abs (slice_index_or table k (pos 0)) ≤ 2 ^ 100 + k * 2 ^ 84
 
 -- a row of the table for each number of groups, with an entry for each column: no part of the first so many groups that such slabs hold beside the column's load gains more, with the value
 pub record IsTable (g : Groups) (queue : List ℕ) (ends : List ℤ) (step width : ℕ) (table : List ℤ) : Type 0 where
-  pub most : (left column : ℕ) (more : List ℕ) (size : ℕ) (value : ℤ) → column < width → left * width + column < length table → IsPart more (left_of queue left) → IsEnd ends size value → column * step + sum_by (weight_at g) more ≤ size
+  pub most : (left column : ℕ) (more : List ℕ) (size : ℕ) (value : ℤ) → column < width
+      → left * width + column < length table → IsPart more (left_of queue left)
+      → IsEnd ends size value → column * step + sum_by (weight_at g) more ≤ size
       → (total_by (gain_at g) more +ℤ value) ≤ℤ slice_index_or table (left * width + column) (pos 0)
   pub small : AreSmall table

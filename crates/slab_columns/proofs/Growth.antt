@@ -5,7 +5,7 @@ use Rattle.std.proofs.lemmas.List.Quantifiers.{all_pairs_push}
 use Rattle.mill_model.specs.Mill.{Mill}
 use Rattle.mill_model.specs.Columns.{Column, IsLegalColumn}
 use Rattle.slab_columns.specs.Index.{Index, IsIndex, ids_at, key_of}
-use Rattle.slab_columns.specs.Pool.{IsPool}
+use Rattle.slab_columns.specs.Pool.{IsPool, most_columns}
 use Rattle.slab_columns.proofs.Places.{slice_get_push_cases}
 
 -- the index with one more number under a key
@@ -27,7 +27,7 @@ below_more_ids : (n : ℕ) (ids : List ℕ) → All (λ id. id < n) ids → All 
 below_more_ids n ids h k d lt = omega (arith, h k d lt)
 
 -- a pool that isn't full stays one with a legal stranger
-pub IsPool-push : (mill : Mill) (columns : List Column) (c : Column) → IsPool (record { mill = mill; columns = columns }) → IsLegalColumn mill c → ¬ Contains columns c → length columns < 8192 → IsPool (record { mill = mill; columns = columns ++ c ∷ [] })
+pub IsPool-push : (mill : Mill) (columns : List Column) (c : Column) → IsPool (record { mill = mill; columns = columns }) → IsLegalColumn mill c → ¬ Contains columns c → length columns < most_columns → IsPool (record { mill = mill; columns = columns ++ c ∷ [] })
 IsPool-push mill columns c pool legal fresh room =
     let len : length (columns ++ c ∷ []) ≡ length columns + 1 = length-append columns (c ∷ []) in
     record {

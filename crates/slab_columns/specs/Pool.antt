@@ -1,7 +1,11 @@
 -- What contracts see of a pool.
-use Rattle.std.specs.Prelude.{◌≡◌, ◌≢◌, ◌≤◌, List, ◌++◌, length, All, AllPairs}
+use Rattle.std.specs.Prelude.{◌≡◌, ◌≢◌, ℕ, ◌≤◌, List, ◌++◌, length, All, AllPairs}
 use Rattle.mill_model.specs.Mill.{Mill}
 use Rattle.mill_model.specs.Columns.{Column, IsLegalColumn}
+
+-- a pool holds at most so many columns
+abbrev pub most_columns : ℕ
+most_columns = 8192
 
 -- a mill, and columns of it in the order in which they came
 pub record Pool : Type 0 where
@@ -10,7 +14,7 @@ pub record Pool : Type 0 where
 
 -- what holds of the columns of every pool
 pub record IsPool (pool : Pool) : Type 0 where
-  pub few : length pool.columns ≤ 8192
+  pub few : length pool.columns ≤ most_columns
   pub legal : All (IsLegalColumn pool.mill) pool.columns
   pub distinct : AllPairs (λ a b. a ≢ b) pool.columns
 

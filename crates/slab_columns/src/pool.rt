@@ -42,7 +42,7 @@ impl Model for Pool {
 
 #[tactic(auto, using(crate::proofs::FlatColumns::layout_facts))]
 impl Pool {
-    ghost use Rattle.slab_columns.specs.Pool.{IsPool, HasGrown};
+    ghost use Rattle.slab_columns.specs.Pool.{IsPool, HasGrown, most_columns};
 
     /// An empty pool for a mill, of which it keeps a copy.
     pub fn new(alloc: Global, mill: &Mill) -> Result<Pool, AllocError>
@@ -87,7 +87,8 @@ impl Pool {
 
     /// The number of a column, unless the pool lacks it.
     pub fn find(&self, kind: Kind, orders: &[u16]) -> Option<ColId>
-        ensures found { IfSome result (λ id. slice_get self.now.columns id.0 ≡ Some (column_of kind orders.now)) }
+        ensures found { IfSome result
+            (λ id. slice_get self.now.columns id.0 ≡ Some (column_of kind orders.now)) }
         ensures within { IfSome result (λ id. id.0 < length self.now.columns) }
         ensures none { IfNone result (¬ Contains self.now.columns (column_of kind orders.now)) }
     {
@@ -97,7 +98,8 @@ impl Pool {
     // The number of the column that has this key, unless the pool lacks it.
     fn find_by_key(&self, key: u64, kind: Kind, orders: &[u16]) -> Option<ColId>
         requires { key ≡ key_of (column_of kind orders.now) }
-        ensures found { IfSome result (λ id. slice_get self.now.columns id.0 ≡ Some (column_of kind orders.now)) }
+        ensures found { IfSome result
+            (λ id. slice_get self.now.columns id.0 ≡ Some (column_of kind orders.now)) }
         ensures within { IfSome result (λ id. id.0 < length self.now.columns) }
         ensures none { IfNone result (¬ Contains self.now.columns (column_of kind orders.now)) }
     {
@@ -119,20 +121,26 @@ impl Pool {
         fulls: &mut Fulls,
     ) -> Result<ColId, AddError>
         requires { IsLegalColumn self.old.mill (column_of kind orders.now) }
-        ensures ok { IfOk result (λ id. slice_get self.new.columns id.0 ≡ Some (column_of kind orders.now)) }
+        ensures ok { IfOk result
+            (λ id. slice_get self.new.columns id.0 ≡ Some (column_of kind orders.now)) }
         ensures within { IfOk result (λ id. id.0 < length self.new.columns) }
         ensures err { OnErr result (self.new ≡ self.old) }
         ensures grown { HasGrown self.old self.new }
 
         // A column that is there changes nothing, and any other is appended.
         ensures known { Contains self.old.columns (column_of kind orders.now) → IsOk result }
-        ensures unchanged { Contains self.old.columns (column_of kind orders.now) → self.new ≡ self.old }
+        ensures unchanged { Contains self.old.columns (column_of kind orders.now)
+            → self.new ≡ self.old }
         ensures appended { ¬ Contains self.old.columns (column_of kind orders.now)
-            → OnOk result (self.new ≡ record self.old { columns = self.old.columns ++ column_of kind orders.now ∷ [] }) }
-        ensures last { ¬ Contains self.old.columns (column_of kind orders.now) → IfOk result (λ id. id.0 ≡ length self.old.columns) }
+            → OnOk result (self.new
+            ≡ record self.old { columns = self.old.columns ++ column_of kind orders.now ∷ [] }) }
+        ensures last { ¬ Contains self.old.columns (column_of kind orders.now)
+            → IfOk result (λ id. id.0 ≡ length self.old.columns) }
 
         // A stranger at a full pool, and nothing else, is refused as such and counted.
-        ensures full { (result ≡ Err AddError.Full) ↔ ((length self.old.columns ≡ 8192) × ¬ Contains self.old.columns (column_of kind orders.now)) }
+        ensures full { (result ≡ Err AddError.Full)
+            ↔ ((length self.old.columns ≡ most_columns)
+            × ¬ Contains self.old.columns (column_of kind orders.now)) }
         ensures counted { result ≡ Err AddError.Full → fulls.new ≡ next_count fulls.old }
         ensures uncounted { result ≢ Err AddError.Full → fulls.new ≡ fulls.old }
         ensures never_falls { fulls.old ≤ fulls.new }

@@ -5,3 +5,6 @@ pub mod Stores
 pub mod Numbers
 pub mod OptionSteps
 pub mod Searching
+pub mod Pieces
+pub mod Cuts
+pub mod Failing

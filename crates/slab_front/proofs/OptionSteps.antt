@@ -14,14 +14,14 @@ two_first f (x ∷ y ∷ zs) a b some p q =
     ∙ ap (λ u. f a ∷ (f u ∷ map f zs)) (sym q)
     ∙ ap (λ rest. f a ∷ (f b ∷ map f rest)) (sym (take_all (length (x ∷ y ∷ zs) - 2) zs (omega arith)))
 
-pub next_option : (searches : Bool) (o next : Options) (words : List (List ℕ)) (name value read given : List ℕ) (left : List (List ℕ))
+pub next_option : (searches : Bool) (first : ℕ) (o next : Options) (words : List (List ℕ)) (name value read given : List ℕ) (left : List (List ℕ))
     → words ≡ name ∷ (value ∷ left) → read ≡ name → given ≡ value
-    → with_option searches (word_after o) o read (Some given) ≡ Ok next → word_after next ≡ word_after o + 2
-    → options_from searches (word_after o) o words ≡ options_from searches (word_after next) next left
-next_option searches o next words name value read given left are p q is after =
-    ap (options_from searches (word_after o) o) are
-    ∙ ap (λ (r : Parsed Options). r >>= λ more. options_from searches (word_after o + 2) more left)
-    (ap (λ (n : List ℕ). with_option searches (word_after o) o n (Some value)) (sym p)
-    ∙ ap (λ (v : List ℕ). with_option searches (word_after o) o read (Some v)) (sym q)
+    → with_option searches (word_after first o) o read (Some given) ≡ Ok next → word_after first next ≡ word_after first o + 2
+    → options_from searches (word_after first o) o words ≡ options_from searches (word_after first next) next left
+next_option searches first o next words name value read given left are p q is after =
+    ap (options_from searches (word_after first o) o) are
+    ∙ ap (λ (r : Parsed Options). r >>= λ more. options_from searches (word_after first o + 2) more left)
+    (ap (λ (n : List ℕ). with_option searches (word_after first o) o n (Some value)) (sym p)
+    ∙ ap (λ (v : List ℕ). with_option searches (word_after first o) o read (Some v)) (sym q)
     ∙ is)
     ∙ ap (λ (n : ℕ). options_from searches n next left) (sym after)

@@ -1,5 +1,5 @@
 -- What is owed of files that have a value.
-use Rattle.std.proofs.Common.{◌≡◌, ◌≢◌, ℕ, ◌≤◌, Bool, true, false, cond, not, nat_eq, nat_lt, List, [], ◌∷◌, length, Option, Some, None, Result, Ok, Err, refl, sym, subst, MatchResult, arith, rules}
+use Rattle.std.proofs.Common.{◌≡◌, ◌≢◌, inl, inr, ℕ, ◌≤◌, Bool, true, false, cond, not, nat_eq, nat_lt, List, [], ◌∷◌, length, Option, Some, None, Result, Ok, Err, refl, sym, ap, subst, MatchResult, arith, rules}
 use Rattle.std.specs.Bool.{MatchBool}
 use Rattle.std.specs.Prelude.{MatchOption, find}
 use Rattle.slab_desk.specs.Desk.{Files}
@@ -8,17 +8,23 @@ use Rattle.mill_model.specs.declared.illegal.Illegal.TheVariants.{Places}
 use Rattle.mill_model.specs.Mill.{Mill, with_yard}
 use Rattle.mill_model.specs.Plans.{Plan}
 use Rattle.mill_model.specs.Judging.{first_broken, breaks, rules_of}
+use Rattle.mill_model.specs.Fronts.{Point}
+use Rattle.slab_relax.specs.declared.tally.Tally.{Tally}
+use Rattle.cert_check.specs.declared.line_why.LineWhy.{LineWhy}
+use Rattle.cert_check.specs.declared.verdict.CutRead.TheVariants as cuts
+use Rattle.cert_check.specs.Whys.{why_of}
 use Rattle.mill_read.specs.declared.fault.TextFault.{TextFault}
 use Rattle.mill_read.specs.OrderFile.{order_file}
 use Rattle.mill_read.specs.YardFile.{yard_file}
 use Rattle.slab_front.specs.declared.texts.Source.{Source}
 use Rattle.slab_front.specs.declared.texts.Source.TheVariants.{Orders, Yard as YardSource}
 use Rattle.slab_front.specs.Words.{MillWords, Command, Parsed}
-use Rattle.slab_front.specs.Words.Command.{Solves, Judges, Makes}
-use Rattle.slab_front.specs.Texts.{long_text, fault_text}
-use Rattle.slab_front.specs.Outcomes.{Outcome, Owing}
-use Rattle.slab_front.specs.Owed.{Exactly, OwesOfFile, OwesOfYard, OwesOfMill, MayEnd, most_bytes, with_colours}
-use Rattle.slab_front.specs.Endings.{HasValue, HasYard, HasMill}
+use Rattle.slab_front.specs.Words.Command.{Solves, Resumes, Judges, Makes}
+use Rattle.slab_front.specs.Texts.{long_text, fault_text, bad_line_text}
+use Rattle.slab_front.specs.Searched.{Searched, IsSearched, status_of}
+use Rattle.slab_front.specs.Outcomes.{Outcome, Owing, saying}
+use Rattle.slab_front.specs.Owed.{Exactly, OwesOfFile, OwesOfYard, OwesOfMill, OwesOfPoints, OwesOfCut, OwesResumed, OwesSearch, stored_as, MayEnd, most_bytes, with_colours}
+use Rattle.slab_front.specs.Endings.{HasValue, HasYard, HasMill, OnCutFile, IsReadCut}
 
 is_short : (n : ℕ) → n ≤ most_bytes → nat_lt most_bytes n ≡ false
 is_short n h = search rules
@@ -47,6 +53,29 @@ owes_mill owes files words m status o has owed =
     owes_value Orders order_file (OwesOfYard after files words.yard) files words.orders has.bare status o has.orders
     (owes_yard after files words.yard has.bare has.with_its_yard status o has.yard (subst (λ (x : Mill). owes x status o) has.colours owed))
 
+-- ---- cuts
+
+owes_cut : (owes : List Point → Owing) (files : Files) (name : List ℕ) (m : Mill) (status : ℕ) (o : Outcome)
+    → OnCutFile (λ bytes. OwesOfPoints owes m bytes status o) name files → OwesOfCut owes files name m status o
+owes_cut owes files name m status o (bytes, has, owed) =
+    subst (λ (x : Option (List ℕ)). MatchOption x ⊥ (λ b. OwesOfPoints owes m b status o)) (sym has) owed
+
+-- of a file with a good cut the search is owed that goes on from its points
+pub owes_points : (files : Files) (name cert : List ℕ) (limit : ℕ) (was is : Tally) (m : Mill) (points : List Point) (s : Searched)
+    → OnCutFile (IsReadCut m (cuts.Head points)) name files → IsSearched m points limit was is (status_of s) s
+    → OwesResumed files name cert limit was is m (status_of s) (stored_as cert m s)
+owes_points files name cert limit was is m points s (bytes, has, spells) found =
+    owes_cut (λ ps. OwesSearch (stored_as cert) ps limit was is m) files name m (status_of s) (stored_as cert m s)
+    (bytes, has, inl (points, spells, (s, found, refl)))
+
+-- of one without, its first bad line
+pub owes_no_cut : (files : Files) (name cert : List ℕ) (limit : ℕ) (was is : Tally) (m : Mill) (number : ℕ) (why : LineWhy) (text : List ℕ)
+    → OnCutFile (IsReadCut m (cuts.No number why)) name files → text ≡ bad_line_text number (why_of why)
+    → OwesResumed files name cert limit was is m 7 (saying text)
+owes_no_cut files name cert limit was is m number why text (bytes, has, first) said =
+    owes_cut (λ ps. OwesSearch (stored_as cert) ps limit was is m) files name m 7 (saying text)
+    (bytes, has, inr (record { number = number; rule = why_of why; first = first; owed = (refl, ap saying said) }))
+
 -- ---- judging
 
 -- what is found passes the test
@@ -68,5 +97,6 @@ not_places mill plan rule count first is =
 pub never_stops : (parsed : Parsed Command) (status : ℕ) → MayEnd parsed status → (status ≢ 5) × (status ≢ 6)
 never_stops (Err number) status is = (λ e. omega (arith, is, e), λ e. omega (arith, is, e))
 never_stops (Ok (Solves words cert limit)) status is = (λ e. omega (arith, is, e), λ e. omega (arith, is, e))
+never_stops (Ok (Resumes words cut cert limit)) status is = (λ e. omega (arith, is, e), λ e. omega (arith, is, e))
 never_stops (Ok (Judges words plan)) status is = (λ e. omega (arith, is, e), λ e. omega (arith, is, e))
 never_stops (Ok (Makes orders seed)) status is = (λ e. omega (arith, is, e), λ e. omega (arith, is, e))

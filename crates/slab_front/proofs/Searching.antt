@@ -9,7 +9,7 @@ use Rattle.mill_model.specs.Mill.{Mill, IsInLimits}
 use Rattle.mill_model.specs.Plans.{Plan, IsLegal}
 use Rattle.mill_model.specs.Trees.{most_nodes}
 use Rattle.mill_model.specs.Marks.{MarkedSteps}
-use Rattle.mill_model.specs.Fronts.{Point, IsPoint, IsGoodFrom, IsGoodHead}
+use Rattle.mill_model.specs.Fronts.{Point, IsPoint, IsGoodFrom, IsGoodHead, sums_list}
 use Rattle.slab_relax.specs.declared.tally.Tally.{Tally}
 use Rattle.slab_relax.specs.Tallies.{HaveCauses}
 use Rattle.slab_tree.specs.Counts.{Counts}
@@ -18,7 +18,7 @@ use Rattle.slab_sweep.specs.declared.swept.Swept.{Swept}
 use Rattle.slab_sweep.specs.declared.swept.Swept.TheVariants.{Complete, NoPlan, Budget}
 use Rattle.slab_sweep.specs.Counting.{most_questions, OpensFew, CountsNodes, CountsBares}
 use Rattle.slab_sweep.specs.Made.{nodes_of, bares_of}
-use Rattle.slab_sweep.specs.Swept.{IsSwept, IsSweptAtOnce, IsToldPlainly, made_nodes, added_to}
+use Rattle.slab_sweep.specs.Swept.{AreWithin, HasTreesWithin, IsSwept, IsSweptAtOnce, IsToldPlainly, made_nodes, added_to}
 use Rattle.slab_start.specs.FirstFit.{first_fit, place_orders, by_weight, plan_of_filled}
 use Rattle.slab_start.specs.Made.{made_mill}
 use Rattle.slab_start.proofs.Started.{first_fit_starts}
@@ -26,9 +26,12 @@ use Rattle.slab_start.proofs.MadePlain.{made_is_plain}
 use Rattle.mill_model.specs.Columns.{Column}
 use Rattle.std.specs.Option.{option_map}
 use Rattle.slab_start.specs.Plain.{IsPlainMill}
-use Rattle.cert_text.specs.Certificates.{IsGood, ShowsFront, ShowsNoPlan, AreMarksOf, finished_trees}
+use Rattle.cert_text.specs.Certificates.{IsGood, ShowsFront, ShowsNoPlan, ShowsCut, AreMarksOf, finished_trees}
 use Rattle.cert_text.specs.Certificates.Ending.{Whole, Cut}
+use Rattle.cert_text.specs.Texts.{certificate_text}
 use Rattle.cert_text.proofs.Shown.{what_is_shown_holds}
+use Rattle.cert_rules.specs.Verdicts.Verdict.{CutOff}
+use Rattle.cert_rules.proofs.Verdicts.{verdicts_hold}
 use Rattle.slab_front.specs.Words.{most_limit}
 use Rattle.slab_front.specs.Searched.{Searched, certificate_of, status_of, status_with, end_word, ending_nodes, IsCounted, HasPlan, attained, FindsFront, IsSearched}
 use Rattle.slab_front.specs.Searches.{searched}
@@ -51,19 +54,22 @@ is_reached : (made count : ℕ) → count < last_count → (0 + made ≤ count) 
 is_reached made count below (inl h) = omega arith
 is_reached made count below (inr h) = absurd (omega arith)
 
-counted : (m : Mill) (limit last_bares : ℕ) (was is : Tally) (new : Counts) (s : Searched)
+counted : (m : Mill) (before : List Point) (limit last_bares : ℕ) (was is : Tally) (new : Counts) (s : Searched)
     → IsInLimits m → limit ≤ most_limit → s.opened ≡ new.opened → s.bare ≡ new.bare
     → OpensFew m (start limit) new → HaveCauses 0 was s.bare is → new.bare ≤ new.opened
-    → CountsNodes (nodes_of (added_to [] s.points) + ending_nodes s.ending) (start limit) new
-    → CountsBares (bares_of (added_to [] s.points) + last_bares) (start limit) new was is
-    → IsCounted m [] limit last_bares was is s
-counted m limit last_bares was is new s limits fits opened bare opens causes among nodes bares =
+    → CountsNodes (nodes_of (added_to before s.points) + ending_nodes s.ending) (start limit) new
+    → CountsBares (bares_of (added_to before s.points) + last_bares) (start limit) new was is
+    → AreWithin limit (added_to before s.points) × (ending_nodes s.ending ≤ limit)
+    → IsCounted m before limit last_bares was is s
+counted m before limit last_bares was is new s limits fits opened bare opens causes among nodes bares within =
     let end : new.opened < last_count = below_end m limit new limits fits opens in
     record {
+      within = within.0;
+      last_within = within.1;
       limited = omega (arith, opened, opens.limited);
       bounded = omega (arith, opened, opens.bounded);
-      nodes = omega (arith, opened, is_reached (nodes_of (added_to [] s.points) + ending_nodes s.ending) new.opened end nodes);
-      bares = omega (arith, bare, is_reached (bares_of (added_to [] s.points) + last_bares) new.bare (omega (arith, end, among)) bares.counted);
+      nodes = omega (arith, opened, is_reached (nodes_of (added_to before s.points) + ending_nodes s.ending) new.opened end nodes);
+      bares = omega (arith, bare, is_reached (bares_of (added_to before s.points) + last_bares) new.bare (omega (arith, end, among)) bares.counted);
       among = omega (arith, opened, bare, among);
       causes = causes;
     }
@@ -107,8 +113,14 @@ first_of_filled m (Some slabs) plan limits placed is =
 first_is_legal : (m : Mill) (plan : Plan) → IsInLimits m → first_fit m None ≡ Some plan → IsLegal m plan
 first_is_legal m plan limits is = first_of_filled m (place_orders m None (by_weight m) []) plan limits refl is
 
-none_before : (x : ℕ) → x ≡ 0 + x
-none_before x = omega arith
+-- where no point was found, no tree was added
+none_before : (before : List Point) (f : List Point → ℕ) (x : ℕ) → before ≡ [] → f [] ≡ 0 → x ≡ f (added_to before []) + x
+none_before [] f x e zero = omega (arith, zero)
+none_before (point ∷ points) f x e zero = cc
+
+none_within : (before : List Point) (limit : ℕ) → before ≡ [] → AreWithin limit (added_to before [])
+none_within [] limit e = tt
+none_within (point ∷ points) limit e = cc
 
 told_plainly : (m : Mill) → IsPlainMill m → IsToldPlainly (Some first_fit) m
 told_plainly m plain = record {
@@ -123,13 +135,13 @@ told_plainly m plain = record {
 few_nodes : (m : Mill) (limit : ℕ) → limit + 2 ≤ most_nodes m → limit < (length m.orders + 2) * most_nodes m
 few_nodes m limit few = omega (arith, mul-le 1 (most_nodes m) (length m.orders + 2) (most_nodes m) (omega arith) (omega arith))
 
-pub found : (m : Mill) (limit : ℕ) (was is : Tally) (new : Counts) (swept : Swept) → IsInLimits m → limit ≤ most_limit
-    → IsSwept (Some first_fit) m [] (start limit) new was is swept
-    → CountsNodes (made_nodes [] swept) (start limit) new
-    → (IsToldPlainly (Some first_fit) m → ◌≡◌ {A = List Point} [] [] → IsSweptAtOnce (start limit) new swept)
+pub found : (m : Mill) (before : List Point) (limit : ℕ) (was is : Tally) (new : Counts) (swept : Swept) → IsInLimits m → limit ≤ most_limit
+    → IsSwept (Some first_fit) m before (start limit) new was is swept
+    → CountsNodes (made_nodes before swept) (start limit) new → HasTreesWithin limit before swept
+    → (IsToldPlainly (Some first_fit) m → before ≡ [] → IsSweptAtOnce (start limit) new swept)
     → OpensFew m (start limit) new → HaveCauses 0 was new.bare is → new.bare ≤ new.opened
-    → IsSearched m [] limit was is (status_of (searched swept new.opened new.bare)) (searched swept new.opened new.bare)
-found m limit was is new (Complete front) limits fits (whole, bares) nodes plain opens causes among =
+    → IsSearched m before limit was is (status_of (searched swept new.opened new.bare)) (searched swept new.opened new.bare)
+found m before limit was is new (Complete front) limits fits (whole, bares) nodes within plain opens causes among =
     let s : Searched = searched (Complete front) new.opened new.bare in
     let good : IsGood m (certificate_of s) = record { ended = whole.good; marks = free_marks (finished_trees (certificate_of s)) } in
     let shows : ShowsFront m (certificate_of s) = record { good = good; whole = tt; some = whole.some } in
@@ -139,14 +151,15 @@ found m limit was is new (Complete front) limits fits (whole, bares) nodes plain
         plan = some_plan m front.points whole.good.head whole.some;
         points = record { front = (what_is_shown_holds m (certificate_of s)).0 shows; plans = plans_of m None front.points whole.good.head };
         shows = shows;
+        checked = (certificate_of s, refl, (shows, refl));
         goes_on = whole.goes_on;
         last = front.last;
         ending = refl;
         made = whole.rest;
-        counts = counted m limit (bare_marks front.last.marks) was is new s limits fits refl refl opens causes among nodes bares;
+        counts = counted m before limit (bare_marks front.last.marks) was is new s limits fits refl refl opens causes among nodes bares within;
       },
     )
-found m limit was is new (NoPlan last) limits fits (nothing, bares) nodes plain opens causes among =
+found m before limit was is new (NoPlan last) limits fits (nothing, bares) nodes within plain opens causes among =
     let s : Searched = searched (NoPlan last) new.opened new.bare in
     let good : IsGood m (certificate_of s) = record { ended = nothing.good; marks = free_marks (finished_trees (certificate_of s)) } in
     let shows : ShowsNoPlan m (certificate_of s) = record { good = good; whole = tt; none = refl } in
@@ -157,57 +170,64 @@ found m limit was is new (NoPlan last) limits fits (nothing, bares) nodes plain 
         unplain = λ is_plain. (what_is_shown_holds m (certificate_of s)).1 shows is_plain.plan (first_is_legal m is_plain.plan limits is_plain.first);
         points = refl;
         shows = shows;
+        checked = (certificate_of s, refl, shows);
         last = last;
         ending = refl;
         made = nothing.rest;
-        counts = counted m limit (bare_marks last.marks) was is new s limits fits refl refl opens causes among
-            (subst (λ (x : ℕ). CountsNodes x (start limit) new) (none_before (length last.steps)) nodes)
-            (subst (λ (x : ℕ). CountsBares x (start limit) new was is) (none_before (bare_marks last.marks)) bares);
+        counts = counted m before limit (bare_marks last.marks) was is new s limits fits refl refl opens causes among
+            (subst (λ (x : ℕ). CountsNodes x (start limit) new) (none_before before nodes_of (length last.steps) nothing.none refl) nodes)
+            (subst (λ (x : ℕ). CountsBares x (start limit) new was is) (none_before before bares_of (bare_marks last.marks) nothing.none refl) bares)
+            (none_within before limit nothing.none, within);
       },
     ))
-found m limit was is new (Budget points rest) limits fits (some, off, bares) nodes plain opens causes among =
+found m before limit was is new (Budget points rest) limits fits (some, off, bares) nodes within plain opens causes among =
     let s : Searched = searched (Budget points rest) new.opened new.bare in
     let good : IsGood m (certificate_of s) = record {
       ended = record { head = off.head; rest = off.cut.cut.open_tree };
       marks = free_marks (finished_trees (certificate_of s));
     } in
+    let shows : ShowsCut m (certificate_of s) = record { good = good; cut = tt } in
     inr (inl (
       cut_status points rest,
       record {
-        shows = record { good = good; cut = tt };
+        leads = verdicts_hold m (certificate_text (certificate_of s)) (CutOff (sums_list points)) (certificate_of s, refl, (shows, refl));
+        shows = shows;
+        checked = (certificate_of s, refl, (shows, refl));
         goes_on = off.goes_on;
         rest = rest;
         ending = refl;
         bares = some;
         cut = off.cut;
         below = few_nodes m limit off.cut.few;
-        unplain = λ _ is_plain. (plain (told_plainly m is_plain) refl).answer;
-        counts = counted m limit some was is new s limits fits refl refl opens causes among nodes bares;
+        unplain = λ empty is_plain. (plain (told_plainly m is_plain) empty).answer;
+        counts = counted m before limit some was is new s limits fits refl refl opens causes among nodes bares within;
       },
     ))
 
 -- the same from the calls of a search
-pub found_from : (m : Mill) (limit : ℕ) (was is : Tally) (old new : Counts) (head : List Point) (swept : Swept) (opened bare : ℕ)
-    → old ≡ start limit → head ≡ [] → opened ≡ new.opened → bare ≡ new.bare → IsInLimits m → limit ≤ most_limit
-    → IsSwept (Some first_fit) m head old new was is swept
-    → CountsNodes (made_nodes head swept) old new
-    → (IsToldPlainly (Some first_fit) m → head ≡ [] → IsSweptAtOnce old new swept)
+pub found_from : (m : Mill) (before : List Point) (limit : ℕ) (was is : Tally) (old new : Counts) (swept : Swept) (opened bare : ℕ)
+    → old ≡ start limit → opened ≡ new.opened → bare ≡ new.bare → IsInLimits m → limit ≤ most_limit
+    → IsSwept (Some first_fit) m before old new was is swept
+    → CountsNodes (made_nodes before swept) old new → HasTreesWithin old.limit before swept
+    → (IsToldPlainly (Some first_fit) m → before ≡ [] → IsSweptAtOnce old new swept)
     → OpensFew m old new → HaveCauses old.bare was new.bare is → new.bare ≤ new.opened
-    → IsSearched m [] limit was is (status_of (searched swept opened bare)) (searched swept opened bare)
-found_from m limit was is old new head swept opened bare eo eh e1 e2 limits fits given nodes plain opens causes among =
-    subst (λ (x : ℕ). IsSearched m [] limit was is (status_of (searched swept x bare)) (searched swept x bare)) (sym e1)
-    (subst (λ (y : ℕ). IsSearched m [] limit was is (status_of (searched swept new.opened y)) (searched swept new.opened y)) (sym e2)
-    (found m limit was is new swept limits fits
-    (subst (λ (n : Counts). IsSwept (Some first_fit) m [] n new was is swept) eo (subst (λ (h : List Point). IsSwept (Some first_fit) m h old new was is swept) eh given))
-    (subst (λ (n : Counts). CountsNodes (made_nodes [] swept) n new) eo (subst (λ (h : List Point). CountsNodes (made_nodes h swept) old new) eh nodes))
-    (λ told none. subst (λ (n : Counts). IsSweptAtOnce n new swept) eo (plain told eh))
+    → IsSearched m before limit was is (status_of (searched swept opened bare)) (searched swept opened bare)
+found_from m before limit was is old new swept opened bare eo e1 e2 limits fits given nodes within plain opens causes among =
+    subst (λ (x : ℕ). IsSearched m before limit was is (status_of (searched swept x bare)) (searched swept x bare)) (sym e1)
+    (subst (λ (y : ℕ). IsSearched m before limit was is (status_of (searched swept new.opened y)) (searched swept new.opened y)) (sym e2)
+    (found m before limit was is new swept limits fits
+    (subst (λ (n : Counts). IsSwept (Some first_fit) m before n new was is swept) eo given)
+    (subst (λ (n : Counts). CountsNodes (made_nodes before swept) n new) eo nodes)
+    (subst (λ (n : Counts). HasTreesWithin n.limit before swept) eo within)
+    (λ told empty. subst (λ (n : Counts). IsSweptAtOnce n new swept) eo (plain told empty))
     (subst (λ (n : Counts). OpensFew m n new) eo opens)
     (subst (λ (n : Counts). HaveCauses n.bare was new.bare is) eo causes) among))
 
 -- a made mill has a front
-pub made_found : (orders seed limit : ℕ) (was is : Tally) (m : Mill) (s : Searched) → m ≡ made_mill orders seed
-    → IsSearched m [] limit was is (status_of s) s → (status_of s ≡ 0) × FindsFront (made_mill orders seed) [] limit was is s
-made_found orders seed limit was is m s made found = only (subst (λ (x : Mill). IsSearched x [] limit was is (status_of s) s) made found)
+pub made_found : (orders seed limit : ℕ) (was is : Tally) (m : Mill) (before : List Point) (s : Searched) → m ≡ made_mill orders seed → before ≡ []
+    → IsSearched m before limit was is (status_of s) s → (status_of s ≡ 0) × FindsFront (made_mill orders seed) [] limit was is s
+made_found orders seed limit was is m before s made none found =
+    only (subst (λ (x : Mill). IsSearched x [] limit was is (status_of s) s) made (subst (λ (ps : List Point). IsSearched m ps limit was is (status_of s) s) none found))
   where
     only : IsSearched (made_mill orders seed) [] limit was is (status_of s) s → (status_of s ≡ 0) × FindsFront (made_mill orders seed) [] limit was is s
     only (inl (zero, front)) = (zero, front)

@@ -10,6 +10,12 @@ use Rattle.mill_read.specs.declared.fault.TextError.{TextError}
 use Rattle.mill_read.specs.declared.fault.TextError.TheVariants.{Text as TextOf}
 use Rattle.mill_read.specs.OrderFile.{order_file}
 use Rattle.mill_read.specs.YardFile.{yard_file}
+use Rattle.mill_model.specs.Fronts.{IsGoodHead}
+use Rattle.cert_rules.specs.States.Wanted.{Cuts}
+use Rattle.cert_rules.specs.Reading.{IsFirstBad}
+use Rattle.cert_check.specs.declared.verdict.CutRead.{CutRead}
+use Rattle.cert_check.specs.declared.verdict.CutRead.TheVariants as cuts
+use Rattle.cert_check.specs.Whys.{why_of}
 use Rattle.slab_front.specs.declared.ending.Answer.{Answer}
 use Rattle.slab_front.specs.declared.ending.Answer.TheVariants.{Text, Stored, SummedUp}
 use Rattle.slab_front.specs.declared.ending.Ending.{Ending}
@@ -20,7 +26,7 @@ use Rattle.slab_front.specs.declared.texts.Source.{Source}
 use Rattle.slab_front.specs.Texts.{long_text, fault_text}
 use Rattle.slab_front.specs.Searched.{status_of}
 use Rattle.slab_front.specs.Outcomes.{Outcome, Owing, Gives, SaysOnly, Begins, saying}
-use Rattle.slab_front.specs.Owed.{MayEnd, most_bytes, with_colours, stored_as, summed_up}
+use Rattle.slab_front.specs.Owed.{MayEnd, SpellsCut, most_bytes, with_colours, stored_as, summed_up}
 
 -- the file is there, isn't too long, and has this value
 abbrev pub HasValue : {A : Type 0} → (List ℕ → Result A TextFault) → List ℕ → A → Files → Type 0
@@ -113,6 +119,22 @@ pub record Finishes (code : ℕ) (outcome : Outcome) (old new : Option Told) (re
   pub short : result ≡ 5 → Steps old new (λ x y. SaysOnly [] x y ⊎ Begins outcome x y)
   -- another part of a file isn't left to read
   pub unread : Steps old new (λ x y. y.left ≡ x.left)
+
+-- ---- cuts
+
+-- a file of this name has bytes of which this was read
+abbrev pub OnCutFile : (List ℕ → Type 0) → List ℕ → Files → Type 0
+OnCutFile P name files = (bytes : List ℕ) × (get files name ≡ Some bytes) × P bytes
+
+-- the points of a good cut, or its first bad line
+abbrev pub IsReadCut : Mill → CutRead → List ℕ → Type 0
+IsReadCut m (cuts.Head points) bytes = SpellsCut m bytes points
+IsReadCut m (cuts.No line broken) bytes = IsFirstBad m Cuts bytes line (why_of broken)
+
+-- the points that were read are a good head
+abbrev pub HasGoodHead : Mill → CutRead → Type 0
+HasGoodHead m (cuts.Head points) = IsGoodHead m points
+HasGoodHead m (cuts.No line broken) = Unit {0}
 
 -- ---- files
 

@@ -1,12 +1,14 @@
 -- What the reader of the words answers.
-use Rattle.std.specs.Prelude.{◌≡◌, ℕ, ◌+◌, ◌≤◌, List, Option, Some, None, IfSome, Result, Ok, Err}
+use Rattle.std.specs.Prelude.{◌≡◌, ℕ, ◌+◌, ◌≤◌, Bool, true, false, List, Option, Some, None, IfSome, Result, Ok, Err}
 use Rattle.std.specs.Borrow.{Bor}
 use Rattle.std.specs.Option.{option_map}
 use Rattle.mill_model.specs.Mill.{IsBetween, most_orders, most_colour_limit}
 use Rattle.slab_front.specs.Words.{MillWords, Command, Parsed, Options, most_limit}
-use Rattle.slab_front.specs.Words.Command.{Solves, Judges, Makes}
+use Rattle.slab_front.specs.Words.Command.{Solves, Resumes, Judges, Makes}
 use Rattle.slab_front.specs.declared.words.Job.{Job}
-use Rattle.slab_front.specs.declared.words.Job.TheVariants.{Solve, Judge, Make}
+use Rattle.slab_front.specs.declared.words.Job.TheVariants.{Solve, Resume, Judge, Make}
+use Rattle.slab_front.specs.declared.words.Optioned.{Optioned}
+use Rattle.slab_front.specs.declared.words.Optioned.TheVariants.{Solving, Resuming, Judging}
 use Rattle.slab_front.specs.declared.words.Options.{Options as ReadOptions}
 use Rattle.slab_front.specs.declared.words.UsageAt.{UsageAt}
 
@@ -19,6 +21,7 @@ named_mill orders yard colours = record { orders = orders.now; yard = name_bytes
 
 abbrev pub command_of : Job → Command
 command_of (Solve orders cert yard nodes colours) = Solves (named_mill orders yard colours) cert.now nodes
+command_of (Resume orders cut cert yard nodes colours) = Resumes (named_mill orders yard colours) cut.now cert.now nodes
 command_of (Judge orders plan yard colours) = Judges (named_mill orders yard colours) plan.now
 command_of (Make orders seed) = Makes orders seed
 
@@ -26,6 +29,7 @@ command_of (Make orders seed) = Makes orders seed
 
 abbrev pub IsInRanges : Job → Type 0
 IsInRanges (Solve orders cert yard nodes colours) = IsBetween 1 most_limit nodes × IsBetween 1 most_colour_limit colours
+IsInRanges (Resume orders cut cert yard nodes colours) = IsBetween 1 most_limit nodes × IsBetween 1 most_colour_limit colours
 IsInRanges (Judge orders plan yard colours) = IsBetween 1 most_colour_limit colours
 IsInRanges (Make orders seed) = orders ≤ most_orders
 
@@ -38,14 +42,26 @@ pub record AreInRanges (options : ReadOptions) : Type 0 where
   pub nodes : IfSome options.nodes (IsBetween 1 most_limit)
   pub colours : IfSome options.colours (IsBetween 1 most_colour_limit)
 
+-- whether a command has a node limit
+abbrev pub searches_for : Optioned → Bool
+searches_for Solving = true
+searches_for Resuming = true
+searches_for Judging = false
+
+-- the number of the first word after the file words of a command
+abbrev pub options_at : Optioned → ℕ
+options_at Solving = 4
+options_at Resuming = 5
+options_at Judging = 4
+
 -- two words more for each option
 abbrev pub words_for : {A : Type 0} → Option A → ℕ
 words_for None = 0
 words_for (Some value) = 2
 
--- the number of the word after the options
-abbrev pub word_after : Options → ℕ
-word_after options = 4 + words_for options.yard + words_for options.nodes + words_for options.colours
+-- the number of the word after the options, of which the first has this number
+abbrev pub word_after : ℕ → Options → ℕ
+word_after first options = first + words_for options.yard + words_for options.nodes + words_for options.colours
 
 -- ---- answers
 

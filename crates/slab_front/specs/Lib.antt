@@ -6,3 +6,4 @@ pub mod Searches
 pub mod Outcomes
 pub mod Owed
 pub mod Endings
+pub mod Laws

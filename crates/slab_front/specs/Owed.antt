@@ -14,13 +14,17 @@ use Rattle.mill_read.specs.YardFile.{yard_file}
 use Rattle.mill_read.specs.PlanFile.{plan_file}
 use Rattle.slab_relax.specs.declared.tally.Tally.{Tally}
 use Rattle.slab_start.specs.Made.{made_mill}
-use Rattle.cert_text.specs.Texts.{certificate_text}
+use Rattle.cert_rules.specs.declared.why.Why.{Why}
+use Rattle.cert_rules.specs.States.Wanted.{Cuts}
+use Rattle.cert_rules.specs.Reading.{IsFirstBad}
+use Rattle.cert_text.specs.Certificates.{Certificate, ShowsCut}
+use Rattle.cert_text.specs.Texts.{Spells, certificate_text}
 use Rattle.mill_report.specs.Reports.{report_text, summary_text}
 use Rattle.slab_front.specs.declared.texts.Source.{Source}
 use Rattle.slab_front.specs.declared.texts.Source.TheVariants.{Orders, Yard as YardSource, Plan as PlanSource}
 use Rattle.slab_front.specs.Words.{MillWords, Command, Parsed, job_of, default_nodes}
-use Rattle.slab_front.specs.Words.Command.{Solves, Judges, Makes}
-use Rattle.slab_front.specs.Texts.{usage_text, fault_text, long_text, legal_text, SaysBroken}
+use Rattle.slab_front.specs.Words.Command.{Solves, Resumes, Judges, Makes}
+use Rattle.slab_front.specs.Texts.{usage_text, fault_text, long_text, legal_text, bad_line_text, SaysBroken}
 use Rattle.slab_front.specs.Searched.{Searched, IsSearched, FindsFront, certificate_of, word_of}
 use Rattle.slab_front.specs.Outcomes.{Outcome, Owing, saying}
 
@@ -81,6 +85,34 @@ abbrev pub OwesMade : ℕ → ℕ → Tally → Tally → Owing
 OwesMade orders seed was is status outcome =
     (status ≡ 0) × ((s : Searched) × FindsFront (made_mill orders seed) [] default_nodes was is s × (outcome ≡ summed_up (made_mill orders seed) s))
 
+-- ---- cuts
+
+-- the bytes spell a good cut with these points, from anybody
+pub record SpellsCut (m : Mill) (bytes : List ℕ) (points : List Point) : Type 0 where
+  pub certificate : Certificate
+  pub spelled : Spells bytes certificate
+  pub shows : ShowsCut m certificate
+  pub points_are : certificate.points ≡ points
+
+-- this is the first bad line, where only a cut is wanted, and the rule that it breaks
+pub record SpellsNoCut (m : Mill) (bytes : List ℕ) (status : ℕ) (outcome : Outcome) : Type 0 where
+  pub number : ℕ
+  pub rule : Why
+  pub first : IsFirstBad m Cuts bytes number rule
+  pub owed : Exactly 7 (bad_line_text number rule) status outcome
+
+-- what is owed of the points of a good cut, or its first bad line
+abbrev pub OwesOfPoints : (List Point → Owing) → Mill → List ℕ → Owing
+OwesOfPoints owes m bytes status outcome =
+    ((points : List Point) × SpellsCut m bytes points × owes points status outcome) ⊎ SpellsNoCut m bytes status outcome
+
+abbrev pub OwesOfCut : (List Point → Owing) → Files → List ℕ → Mill → Owing
+OwesOfCut owes files name m status outcome = MatchOption (get files name) ⊥ (λ bytes. OwesOfPoints owes m bytes status outcome)
+
+-- a search that goes on from the points of a cut
+abbrev pub OwesResumed : Files → List ℕ → List ℕ → ℕ → Tally → Tally → Mill → Owing
+OwesResumed files cut cert limit was is m = OwesOfCut (λ points. OwesSearch (stored_as cert) points limit was is m) files cut m
+
 -- ---- plans
 
 -- the sums, where the plan is legal, and else the first rule that it breaks
@@ -97,6 +129,7 @@ OwesOfPlan files name m = OwesOfFile PlanSource (plan_file (length m.orders)) (O
 -- the counters of what a turn can fail by stand at was before the run, and at is after it
 abbrev pub OwesOfCommand : Command → Tally → Tally → Files → Owing
 OwesOfCommand (Solves words cert limit) was is files = OwesOfMill (OwesSearch (stored_as cert) [] limit was is) files words
+OwesOfCommand (Resumes words cut cert limit) was is files = OwesOfMill (OwesResumed files cut cert limit was is) files words
 OwesOfCommand (Judges words plan) was is files = OwesOfMill (OwesOfPlan files plan) files words
 OwesOfCommand (Makes orders seed) was is files = OwesMade orders seed was is
 
@@ -105,7 +138,7 @@ abbrev pub OwesOfWords : Parsed Command → Tally → Tally → Files → Owing
 OwesOfWords parsed was is files status outcome =
     MatchResult parsed (λ command. OwesOfCommand command was is files status outcome) (λ number. Exactly 1 (usage_text number) status outcome)
 
--- the words, the order file, the yard file, the plan file, the search: the first refusal ends a run
+-- the words, the order file, the yard file, the plan file or the cut, the search: the first refusal ends a run
 abbrev pub Owes : List (List ℕ) → Tally → Tally → Files → Owing
 Owes words = OwesOfWords (job_of words)
 
@@ -118,6 +151,7 @@ IsSearchStatus status = (status ≡ 0) ⊎ ((status ≡ 3) ⊎ (status ≡ 4))
 abbrev pub MayEnd : Parsed Command → ℕ → Type 0
 MayEnd (Err number) status = status ≡ 1
 MayEnd (Ok (Solves words cert limit)) status = (status ≡ 2) ⊎ IsSearchStatus status
+MayEnd (Ok (Resumes words cut cert limit)) status = (status ≡ 2) ⊎ ((status ≡ 7) ⊎ IsSearchStatus status)
 MayEnd (Ok (Judges words plan)) status = (status ≡ 0) ⊎ ((status ≡ 2) ⊎ (status ≡ 8))
 MayEnd (Ok (Makes orders seed)) status = status ≡ 0
 
@@ -125,5 +159,6 @@ MayEnd (Ok (Makes orders seed)) status = status ≡ 0
 abbrev pub LeavesUnread : Parsed Command → Told → Told → Type 0
 LeavesUnread (Err number) old new = new.left ≡ old.left
 LeavesUnread (Ok (Solves words cert limit)) old new = Unit {0}
+LeavesUnread (Ok (Resumes words cut cert limit)) old new = Unit {0}
 LeavesUnread (Ok (Judges words plan)) old new = Unit {0}
 LeavesUnread (Ok (Makes orders seed)) old new = new.left ≡ old.left

@@ -15,13 +15,16 @@ use Rattle.slab_tree.specs.Marking.{bare_marks}
 use Rattle.slab_sweep.specs.Openings.{opening_after, limits_of_rest}
 use Rattle.slab_sweep.specs.Made.{IsMade, IsCut, GoesOnFrom, nodes_of, bares_of}
 use Rattle.slab_sweep.specs.Counting.{most_questions}
-use Rattle.slab_sweep.specs.Swept.{added_to}
+use Rattle.slab_sweep.specs.Swept.{AreWithin, added_to}
 use Rattle.slab_start.specs.FirstFit.{first_fit}
 use Rattle.slab_start.specs.Plain.{IsPlainMill}
 use Rattle.mill_report.specs.declared.word.Word.{Word}
 use Rattle.mill_report.specs.declared.word.Word.TheVariants.{Complete, Budget, NoPlan}
 use Rattle.cert_text.specs.Certificates.{Ending, Certificate, ShowsFront, ShowsNoPlan, ShowsCut}
 use Rattle.cert_text.specs.Certificates.Ending.{Whole, Cut}
+use Rattle.cert_text.specs.Texts.{certificate_text}
+use Rattle.cert_rules.specs.Verdicts.{Verdict, IsVerdict, LeadToTheFront}
+use Rattle.cert_rules.specs.Verdicts.Verdict.{Front, NoPlan as WithoutPlan, CutOff}
 
 pub record Searched : Type 0 where
   pub points : List Point
@@ -60,7 +63,9 @@ ending_nodes (Cut rest) = length rest
 -- The nodes that were opened and the bare splits among them. The trees that the search made have no more nodes than were
 -- opened, and no more bare splits than were counted, so many of them in the last tree.
 pub record IsCounted (m : Mill) (before : List Point) (limit last_bares : ℕ) (was is : Tally) (s : Searched) : Type 0 where
-  -- each question's tree has at most so many nodes as the limit, and all of them together at most the node bound
+  -- no tree that the search made has more nodes than the limit, and all of them together have at most the node bound
+  pub within : AreWithin limit (added_to before s.points)
+  pub last_within : ending_nodes s.ending ≤ limit
   pub limited : s.opened ≤ most_questions m * limit
   pub bounded : s.opened ≤ node_bound m
   pub nodes : nodes_of (added_to before s.points) + ending_nodes s.ending ≤ s.opened
@@ -100,11 +105,16 @@ IsLastTree m points last = IsMade m (opening_after (Some first_fit) m (last_sums
 abbrev pub IsLastCut : Mill → List Point → ℕ → ℕ → Tally → Tally → List (Option Ask) → Type 0
 IsLastCut m points limit bares was is rest = IsCut m (opening_after (Some first_fit) m (last_sums None points)) limit bares was is rest
 
+-- what a check says of the certificate's text: bytes have one verdict
+abbrev pub IsCheckedAs : Mill → Searched → Verdict → Type 0
+IsCheckedAs m s verdict = IsVerdict m (certificate_text (certificate_of s)) verdict
+
 -- the whole front, with a good whole certificate
 pub record FindsFront (m : Mill) (before : List Point) (limit : ℕ) (was is : Tally) (s : Searched) : Type 0 where
   pub plan : HasPlan m
   pub points : AreTheFront m s.points
   pub shows : ShowsFront m (certificate_of s)
+  pub checked : IsCheckedAs m s (Front (sums_list s.points))
   pub goes_on : GoesOn m before s.points
   pub last : MarkedSteps
   pub ending : s.ending ≡ Whole last
@@ -117,15 +127,19 @@ pub record FindsNoPlan (m : Mill) (before : List Point) (limit : ℕ) (was is : 
   pub unplain : IsPlainMill m → ⊥
   pub points : s.points ≡ []
   pub shows : ShowsNoPlan m (certificate_of s)
+  pub checked : IsCheckedAs m s WithoutPlan
   pub last : MarkedSteps
   pub ending : s.ending ≡ Whole last
   pub made : IsLastTree m [] last
   pub counts : IsCounted m before limit (bare_marks last.marks) was is s
 
--- the node limit cut the search off: a good cut. That never comes with a limit of at least the node bound, nor from the start
+-- The node limit cut the search off: a good cut. Its points but the last are on the front, and the last has the least loss of the
+-- plans with fewer new slabs than the point before. That never comes with a limit of at least the node bound, nor from the start
 -- for a plain mill
 pub record IsCutShort (m : Mill) (before : List Point) (limit : ℕ) (was is : Tally) (s : Searched) : Type 0 where
+  pub leads : LeadToTheFront m None (sums_list s.points)
   pub shows : ShowsCut m (certificate_of s)
+  pub checked : IsCheckedAs m s (CutOff (sums_list s.points))
   pub goes_on : GoesOn m before s.points
   pub rest : List (Option Ask)
   pub ending : s.ending ≡ Cut rest

@@ -17,6 +17,8 @@ pub record MillWords : Type 0 where
 pub data Command : Type 0 where
   -- a mill, the file of its certificate, and the most nodes of one question's tree
   Solves : MillWords → List ℕ → ℕ → Command
+  -- a mill, the file of the cut from which the search goes on, and as in a search
+  Resumes : MillWords → List ℕ → List ℕ → ℕ → Command
   -- a mill and a plan file
   Judges : MillWords → List ℕ → Command
   -- so many orders, and the number that makes them
@@ -123,6 +125,14 @@ solve_of words = do
   options ← options_from true 4 no_options cert.1
   Ok (Solves (mill_words orders.0 options) cert.0 (unwrap_or options.nodes default_nodes))
 
+abbrev pub resume_of : List (List ℕ) → Parsed Command
+resume_of words = do
+  orders ← word_at file_named 2 words
+  cut ← word_at file_named 3 orders.1
+  cert ← word_at file_named 4 cut.1
+  options ← options_from true 5 no_options cert.1
+  Ok (Resumes (mill_words orders.0 options) cut.0 cert.0 (unwrap_or options.nodes default_nodes))
+
 abbrev pub judge_of : List (List ℕ) → Parsed Command
 judge_of words = do
   orders ← word_at file_named 2 words
@@ -141,5 +151,6 @@ abbrev pub job_of : List (List ℕ) → Parsed Command
 job_of [] = Err 1
 job_of (command ∷ words) =
     if bytes_eq command (codes "solve") then solve_of words
+    else (if bytes_eq command (codes "resume") then resume_of words
     else (if bytes_eq command (codes "judge") then judge_of words
-    else (if bytes_eq command (codes "make") then make_of words else Err 1))
+    else (if bytes_eq command (codes "make") then make_of words else Err 1)))

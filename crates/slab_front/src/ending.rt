@@ -1,8 +1,9 @@
 ghost use Rattle.std.specs.Prelude.{◌≡◌};
-ghost use Rattle.slab_front.specs.declared.ending.Stop.TheVariants.{Memory};
+ghost use Rattle.slab_front.specs.declared.ending.Stop.TheVariants.{Fault, Memory};
 
 use crate::search::Search;
 use mill_model::Mill;
+use slab_desk::Failed;
 use std::alloc::AllocError;
 
 /// A text to be said, and the status with which a run then ends.
@@ -36,5 +37,13 @@ impl From<AllocError> for Stop {
 
     fn from(_: AllocError) -> Stop {
         Stop::Memory
+    }
+}
+
+impl From<Failed> for Stop {
+    ghost from_gives = { λ _ stop. stop ≡ Fault };
+
+    fn from(_: Failed) -> Stop {
+        Stop::Fault
     }
 }

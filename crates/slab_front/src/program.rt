@@ -14,7 +14,7 @@ ghost use Rattle.slab_front.specs.Endings.{HasOnlyRead, EndsByFaults, IsAnswer, 
 use crate::ending::{Answer, Stop};
 use crate::giving::{give, say};
 use crate::judge::judge;
-use crate::solve::{make, solve};
+use crate::solve::{make, resume, solve};
 use crate::texts::usage_text;
 use crate::words::{Job, UsageAt, read_words};
 use slab_desk::Desk;
@@ -24,7 +24,7 @@ use std::alloc::Global;
 /// Does all that the program `slabfront` does, and answers the status with which it ends. The words are those after the
 /// program's name.
 ///
-/// A run reads the words, the order file, the yard file and the plan file in this order, searches, stores the certificate and
+/// A run reads the words, the order file, the yard file and the plan file or the cut in this order, searches, stores the certificate and
 /// says its text; the first refusal ends it. It creates no file but the certificate's, and that only after the search has ended
 /// and when it needs no more memory. It says exactly the text that is owed:
 ///
@@ -37,6 +37,7 @@ use std::alloc::Global;
 /// | 4 | a mill to be solved has no legal plan |
 /// | 5 | the outside failed in the last call: the desk's count of faults rose, or stands at its last value; what was stored and said is a beginning of what was to be |
 /// | 6 | memory ran out; only that was said, and no file was created |
+/// | 7 | the file from which a search is to go on has no good cut |
 /// | 8 | a judged plan is illegal |
 pub fn run<D: Desk>(alloc: Global, words: &[String], desk: &mut D, tally: &mut Tally) -> u8
     ensures ran { Steps (D.told desk.old) (D.told desk.new)
@@ -101,6 +102,14 @@ fn answer<'a, D: Desk>(
             nodes,
             colours,
         } => solve(alloc, desk, tally, orders, cert, yard, nodes, colours),
+        Job::Resume {
+            orders,
+            cut,
+            cert,
+            yard,
+            nodes,
+            colours,
+        } => resume(alloc, desk, tally, orders, cut, cert, yard, nodes, colours),
         Job::Judge {
             orders,
             plan,

@@ -1,5 +1,6 @@
 ghost use Rattle.std.specs.Prelude.{◌≡◌, [], IfOk};
 ghost use Rattle.mill_model.specs.Mill.{IsBetween};
+ghost use Rattle.mill_model.specs.Fronts.{IsGoodHead};
 ghost use Rattle.mill_model.specs.declared.version.Version.TheVariants.{Two};
 ghost use Rattle.slab_relax.specs.Tallies.{AreNoLess};
 ghost use Rattle.cert_write.specs.Parts.{certificate_of as certificate_stored};
@@ -38,35 +39,38 @@ impl Model for Search {
     ghost invariant = { λ s. (s.none ≡ []) × HasPointIfWhole s.swept };
 }
 
-/// The Pareto front of a mill by first fit and a sweep, in which one question's tree may have so many nodes. The only error is
-/// want of memory.
+/// The Pareto front of a mill by first fit and a sweep, which goes on from the points before. One question's tree may have so many
+/// nodes. The only error is want of memory.
 pub fn search_front(
     alloc: Global,
     mill: &Mill,
+    before: Head,
     limit: u64,
     tally: &mut Tally,
 ) -> Result<Search, AllocError>
-    requires { IsBetween 1 most_limit limit }
-    ensures found { IfOk result (λ s. IsSearched mill.now [] limit tally.old tally.new (status_of s) s) }
+    requires limit { IsBetween 1 most_limit limit }
+    requires head { IsGoodHead mill.now before }
+    ensures found { IfOk result (λ s. IsSearched mill.now before limit tally.old tally.new (status_of s) s) }
     ensures counters { AreNoLess tally.old tally.new }
 {
+    // Its readers tell that a mill is within its limits.
     let _orders = mill.orders();
-    let none = Head::new(Vec::new(alloc));
+    let none = no_points(alloc);
     let mut nodes = Nodes::new(limit);
-    let swept = sweep(
-        alloc,
-        mill,
-        &mut FirstFit::new(),
-        Head::new(Vec::new(alloc)),
-        &mut nodes,
-        tally,
-    )?;
+    let swept = sweep(alloc, mill, &mut FirstFit::new(), before, &mut nodes, tally)?;
     Ok(Search {
         swept,
         none,
         opened: nodes.opened(),
         bare: nodes.bare(),
     })
+}
+
+// A head without a point.
+pub(crate) fn no_points(alloc: Global) -> Head
+    ensures { result ≡ [] }
+{
+    Head::new(Vec::new(alloc))
 }
 
 impl Search {

@@ -1,8 +1,10 @@
 ghost use Rattle.std.specs.Prelude.{◌≡◌, ◌≢◌, IfOk};
 ghost use Rattle.std.specs.String.{string_bytes};
-ghost use Rattle.slab_front.specs.Texts.{usage_text as usage_line, source_word, why_word as word_of_why, fault_text as fault_line, long_text as long_line, legal_text as legal_line, slab_text as slab_line, SaysBroken};
+ghost use Rattle.cert_check.specs.Whys.{why_of};
+ghost use Rattle.slab_front.specs.Texts.{usage_text as usage_line, source_word, why_word as word_of_why, fault_text as fault_line, long_text as long_line, legal_text as legal_line, slab_text as slab_line, SaysBroken, bad_line_text as bad_line, rule_word};
 
 use crate::words::UsageAt;
+use cert_check::LineWhy;
 use mill_model::{Illegal, Sums};
 use mill_read::{TextFault, Why};
 use std::alloc::{AllocError, Global};
@@ -101,4 +103,45 @@ fn slab_text(alloc: Global, slab: u16, rule: &str) -> Result<String, AllocError>
 {
     let number = u32::from(slab) + 1;
     format!(in alloc; "illegal slab {number} {rule}\n")
+}
+
+/// The first bad line of a certificate, and the rule that it breaks.
+pub fn bad_line_text(alloc: Global, number: u64, why: &LineWhy) -> Result<String, AllocError>
+    ensures { IfOk result (λ text. string_bytes text ≡ bad_line number (why_of why.now)) }
+{
+    let rule = line_why_word(why);
+    format!(in alloc; "certificate line {number} {rule}\n")
+}
+
+fn line_why_word(why: &LineWhy) -> &'static str
+    ensures { result.now ≡ rule_word (why_of why.now) }
+{
+    match why {
+        LineWhy::Extra => "extra",
+        LineWhy::End => "end",
+        LineWhy::Spelling => "spelling",
+        LineWhy::Range => "range",
+        LineWhy::Expect => "expect",
+        LineWhy::Order => "order",
+        LineWhy::Size => "size",
+        LineWhy::Place => "place",
+        LineWhy::Load => "load",
+        LineWhy::Colours => "colours",
+        LineWhy::Yard => "yard",
+        LineWhy::Twice => "twice",
+        LineWhy::Barred => "barred",
+        LineWhy::Unplaced => "unplaced",
+        LineWhy::Sums => "sums",
+        LineWhy::Ask => "ask",
+        LineWhy::Repeat => "repeat",
+        LineWhy::Count => "count",
+        LineWhy::Sign => "sign",
+        LineWhy::Missing => "missing",
+        LineWhy::Sum => "sum",
+        LineWhy::Column { kind: _, orders: _ } => "column",
+        LineWhy::Agree => "agree",
+        LineWhy::Cover => "cover",
+        LineWhy::Loss => "loss",
+        LineWhy::New => "new",
+    }
 }

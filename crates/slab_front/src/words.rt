@@ -2,8 +2,8 @@ ghost use Rattle.std.specs.Prelude.{◌≡◌, ℕ, ◌+◌, ◌^◌, ◌<◌, �
 ghost use Rattle.std.specs.Option.{option_and_then};
 ghost use Rattle.std.specs.String.{string_bytes};
 ghost use Rattle.mill_model.specs.Mill.{IsBetween};
-ghost use Rattle.slab_front.specs.Words.{is_file_word, file_named, number_named, word_at, end_at, no_options, with_option as with_one_more, options_from, solve_of, judge_of, make_of, job_of};
-ghost use Rattle.slab_front.specs.Jobs.{command_of, options_of, word_after, name_bytes, IsParsed, IsInRanges, AreInRanges};
+ghost use Rattle.slab_front.specs.Words.{is_file_word, file_named, number_named, word_at, end_at, no_options, with_option as with_one_more, options_from, solve_of, resume_of, judge_of, make_of, job_of};
+ghost use Rattle.slab_front.specs.Jobs.{command_of, searches_for, options_at as number_of_options, options_of, word_after, name_bytes, IsParsed, IsInRanges, AreInRanges};
 
 use itoa::Buffer;
 use mill_model::{MOST_COLOUR_LIMIT, MOST_ORDERS};
@@ -23,6 +23,15 @@ pub enum Job<'a> {
     /// 3. A certificate of it is stored in the file `cert`. One question's tree may have so many nodes, 1 to 10^15.
     Solve {
         orders: &'a str,
+        cert: &'a str,
+        yard: Option<&'a str>,
+        nodes: u64,
+        colours: u16,
+    },
+    /// The same of such a mill, from the points of a cut on, with their trees.
+    Resume {
+        orders: &'a str,
+        cut: &'a str,
         cert: &'a str,
         yard: Option<&'a str>,
         nodes: u64,
@@ -49,6 +58,14 @@ pub struct UsageAt {
     pub word: u32,
 }
 
+// A command that has options.
+#[derive(Clone, Copy)]
+enum Optioned {
+    Solving,
+    Resuming,
+    Judging,
+}
+
 // The options that were read so far.
 #[derive(Clone, Copy)]
 struct Options<'a> {
@@ -57,15 +74,17 @@ struct Options<'a> {
     colours: Option<u16>,
 }
 
-/// What the words after the program's name ask for: `solve ORDERS CERT`, `judge ORDERS PLAN` or `make N SEED`. After the file
-/// words stand the options `--yard FILE` and `--colours P`, for `solve` also `--nodes N`, in any order, each at most once. The
-/// name of a file isn't empty and doesn't begin with `-`; a number has no leading zero. It takes no memory.
+/// What the words after the program's name ask for: `solve ORDERS CERT`, `resume ORDERS CUT CERT`, `judge ORDERS PLAN` or
+/// `make N SEED`. After the file words stand the options `--yard FILE` and `--colours P`, for a search also `--nodes N`, in any
+/// order, each at most once. The name of a file isn't empty and doesn't begin with `-`; a number has no leading zero. It takes
+/// no memory.
 pub fn read_words(words: &[String]) -> Result<Job<'_>, UsageAt>
     ensures job { IsParsed command_of result (job_of (map string_bytes words.now)) }
     ensures ranges { IfOk result IsInRanges }
 {
     match words {
         [command, rest @ ..] if command.as_str() == "solve" => solve(rest),
+        [command, rest @ ..] if command.as_str() == "resume" => resume(rest),
         [command, rest @ ..] if command.as_str() == "judge" => judge(rest),
         [command, rest @ ..] if command.as_str() == "make" => make(rest),
         _ => Err(UsageAt { word: 1 }),
@@ -79,9 +98,28 @@ fn solve(words: &[String]) -> Result<Job<'_>, UsageAt>
 {
     let (orders, rest) = file_word(words, 2)?;
     let (cert, rest) = file_word(rest, 3)?;
-    let options = read_options(rest, true)?;
+    let options = read_options(rest, Optioned::Solving)?;
     Ok(Job::Solve {
         orders,
+        cert,
+        yard: options.yard,
+        nodes: options.nodes.unwrap_or(DEFAULT_NODES),
+        colours: options.colours.unwrap_or(DEFAULT_COLOURS),
+    })
+}
+
+// The words after `resume`.
+fn resume(words: &[String]) -> Result<Job<'_>, UsageAt>
+    ensures job { IsParsed command_of result (resume_of (map string_bytes words.now)) }
+    ensures ranges { IfOk result IsInRanges }
+{
+    let (orders, rest) = file_word(words, 2)?;
+    let (cut, rest) = file_word(rest, 3)?;
+    let (cert, rest) = file_word(rest, 4)?;
+    let options = read_options(rest, Optioned::Resuming)?;
+    Ok(Job::Resume {
+        orders,
+        cut,
         cert,
         yard: options.yard,
         nodes: options.nodes.unwrap_or(DEFAULT_NODES),
@@ -96,7 +134,7 @@ fn judge(words: &[String]) -> Result<Job<'_>, UsageAt>
 {
     let (orders, rest) = file_word(words, 2)?;
     let (plan, rest) = file_word(rest, 3)?;
-    let options = read_options(rest, false)?;
+    let options = read_options(rest, Optioned::Judging)?;
     Ok(Job::Judge {
         orders,
         plan,
@@ -119,9 +157,9 @@ fn make(words: &[String]) -> Result<Job<'_>, UsageAt>
     })
 }
 
-// The words that are left are options. The first has the number 4.
-fn read_options(words: &[String], searches: bool) -> Result<Options<'_>, UsageAt>
-    ensures options { IsParsed options_of result (options_from searches 4 no_options (map string_bytes words.now)) }
+// The words that are left are options of this command.
+fn read_options(words: &[String], command: Optioned) -> Result<Options<'_>, UsageAt>
+    ensures options { IsParsed options_of result (options_from (searches_for command) (number_of_options command) no_options (map string_bytes words.now)) }
     ensures ranges { IfOk result AreInRanges }
 {
     let mut options = Options {
@@ -133,39 +171,63 @@ fn read_options(words: &[String], searches: bool) -> Result<Options<'_>, UsageAt
     'options: loop {
         match rest {
             [] => return Ok(options),
-            [name] => return options.with_option(name.as_str(), None, searches),
+            [name] => return options.with_option(command, name.as_str(), None),
             [name, value, after @ ..] => {
-                options = options.with_option(name.as_str(), Some(value.as_str()), searches)?;
+                options = options.with_option(command, name.as_str(), Some(value.as_str()))?;
                 rest = after;
             }
         }
     }
 }
 
+impl Optioned {
+    // The number of the first word after its file words.
+    fn options_at(self) -> u32
+        ensures value { result ≡ number_of_options self }
+        ensures few { result ≤ 5 }
+    {
+        match self {
+            Optioned::Solving | Optioned::Judging => 4,
+            Optioned::Resuming => 5,
+        }
+    }
+
+    // Whether it has a node limit.
+    fn searches(self) -> bool
+        ensures { result ≡ searches_for self }
+    {
+        match self {
+            Optioned::Solving | Optioned::Resuming => true,
+            Optioned::Judging => false,
+        }
+    }
+}
+
 impl<'a> Options<'a> {
-    // The number of the word after these options.
-    fn next_word(&self) -> u32
-        ensures { result ≡ word_after (options_of self.now) }
+    // The number of the word after these options of a command.
+    fn next_word(&self, command: Optioned) -> u32
+        ensures value { result ≡ word_after (number_of_options command) (options_of self.now) }
+        ensures few { result ≤ 11 }
     {
         let yard = if self.yard.is_some() { 2 } else { 0 };
         let nodes = if self.nodes.is_some() { 2 } else { 0 };
         let colours = if self.colours.is_some() { 2 } else { 0 };
-        4 + yard + nodes + colours
+        command.options_at() + yard + nodes + colours
     }
 
-    // These options with one more: its name, and the word after that, where there is one.
+    // These options of a command with one more: its name, and the word after that, where there is one.
     fn with_option(
         self,
+        command: Optioned,
         name: &str,
         value: Option<&'a str>,
-        searches: bool,
     ) -> Result<Options<'a>, UsageAt>
         requires ranges { AreInRanges self }
-        ensures options { IsParsed options_of result (with_one_more searches (word_after (options_of self.entry)) (options_of self.entry) name.now (name_bytes value.entry)) }
+        ensures options { IsParsed options_of result (with_one_more (searches_for command) (word_after (number_of_options command) (options_of self.entry)) (options_of self.entry) name.now (name_bytes value.entry)) }
         ensures ranges { IfOk result AreInRanges }
-        ensures next { IfOk result (λ options. word_after (options_of options) ≡ word_after (options_of self.entry) + 2) }
+        ensures next { IfOk result (λ options. (first : ℕ) → word_after first (options_of options) ≡ word_after first (options_of self.entry) + 2) }
     {
-        let number = self.next_word();
+        let number = self.next_word(command);
         let wrong = UsageAt { word: number + 1 };
         if name == "--yard" && self.yard.is_none() {
             let yard = given_file(value).ok_or(wrong)?;
@@ -174,7 +236,7 @@ impl<'a> Options<'a> {
                 ..self
             });
         }
-        if name == "--nodes" && searches && self.nodes.is_none() {
+        if name == "--nodes" && command.searches() && self.nodes.is_none() {
             let nodes = given_number(value, 1, MOST_NODES).ok_or(wrong)?;
             return Ok(Options {
                 nodes: Some(nodes),

@@ -4,6 +4,7 @@ use Rattle.mill_model.specs.declared.ask.Ask.{Ask}
 use Rattle.mill_model.specs.declared.ask.Ask.TheVariants.{Pair, Put}
 use Rattle.mill_model.specs.Covers.{Part, IsCover}
 use Rattle.mill_model.specs.Decisions.{IsAsk}
+use Rattle.slab_decide.specs.Decided.{IsBefore}
 use Rattle.slab_relax.specs.PoolCovers.{parts_of}
 use Rattle.slab_node.specs.declared.wholes.Wholes.{Wholes}
 use Rattle.slab_node.specs.Shares.{share, IsFractional, IsWhole}
@@ -19,6 +20,14 @@ share_in w ask = share (parts_in w) ask
 -- an ask of the mill that the cover answers in part
 abbrev pub IsPartialIn : Wholes → Ask → Type 0
 IsPartialIn w ask = IsAsk w.node.mill.now ask × IsFractional w.whole (parts_in w) ask
+
+-- it answers no earlier ask of the mill in part
+abbrev pub HasNoneBefore : Wholes → Ask → Type 0
+HasNoneBefore w ask = (other : Ask) → IsAsk w.node.mill.now other → IsBefore other ask → IsFractional w.whole (parts_in w) other → ⊥
+
+-- it answers no earlier put in part
+abbrev pub HasNoPutBefore : Wholes → Ask → Type 0
+HasNoPutBefore w ask = (o s : ℕ) → o < length w.node.mill.now.orders → s < length w.node.mill.now.yard → IsBefore (Put o s) ask → IsFractional w.whole (parts_in w) (Put o s) → ⊥
 
 -- it answers no pair in part
 abbrev pub HasWholePairs : Wholes → Type 0

@@ -1,8 +1,9 @@
 -- What one node's turn is asked and what it answers.
-use Rattle.std.specs.Prelude.{◌≡◌, ℕ, Bool, List, []}
+use Rattle.std.specs.Prelude.{◌≡◌, ℕ, ◌<◌, ℤ, Bool, List, []}
 use Rattle.mill_model.specs.declared.ask.Ask.{Ask}
 use Rattle.mill_model.specs.declared.limits.Limits.{Limits}
 use Rattle.mill_model.specs.Mill.{Mill}
+use Rattle.mill_model.specs.Columns.{Column}
 use Rattle.mill_model.specs.Plans.{Plan, IsLegal, IsInOrder, sums_of}
 use Rattle.mill_model.specs.Limits.{IsWithin}
 use Rattle.mill_model.specs.Prices.{Prices, Refutes}
@@ -10,11 +11,13 @@ use Rattle.mill_model.specs.Covers.{Part, IsCover}
 use Rattle.mill_model.specs.Decisions.{Decision, IsAsk, PlanAgrees}
 use Rattle.mill_model.specs.Assignments.{Follows}
 use Rattle.slab_columns.specs.Pool.{Pool}
-use Rattle.slab_decide.specs.Decided.{Decisions}
+use Rattle.slab_decide.specs.Decided.{Decisions, IsBefore}
+use Rattle.slab_frac.specs.Scaled.{IsScaled}
 use Rattle.slab_relax.specs.declared.tally.Tally.{Tally}
 use Rattle.slab_relax.specs.Nodes.{BelongTogether}
 use Rattle.slab_relax.specs.Tallies.{HasCause}
-use Rattle.slab_relax.specs.PoolCovers.{Parts}
+use Rattle.slab_relax.specs.PoolCovers.{Parts, multipliers, parts_of}
+use Rattle.slab_node.specs.Shares.{IsFractional}
 use Rattle.slab_node.specs.declared.turned.Turned.{Turned}
 use Rattle.slab_node.specs.declared.turned.Turned.TheVariants.{Refuted, InBox, Spread, Bare}
 
@@ -54,6 +57,16 @@ pub record HasCover (m : Mill) (limits : Limits) (decisions : List Decision) : T
   pub parts : List Part
   pub covers : IsCover m limits decisions denominator parts
 
+-- The first ask of the mill that a cover answers in part, its multipliers brought to whole numbers over some denominator; it's
+-- the first over each.
+pub record IsFirstPartial (m : Mill) (columns : List Column) (cover : Parts) (ask : Ask) : Type 0 where
+  pub denominator : ℕ
+  pub wholes : List ℤ
+  pub positive : 0 < denominator
+  pub scaled : IsScaled denominator (multipliers cover) wholes
+  pub half : IsFractional denominator (parts_of columns cover wholes) ask
+  pub first : (other : Ask) → IsAsk m other → IsBefore other ask → IsFractional denominator (parts_of columns cover wholes) other → ⊥
+
 -- ---- which answer it is
 
 abbrev pub IfRefuted : Turned → (Prices → Type 0) → Type 0
@@ -73,6 +86,13 @@ IfSpread (Refuted p) P = Unit {0}
 IfSpread (InBox plan) P = Unit {0}
 IfSpread (Spread cover ask) P = P cover
 IfSpread (Bare ask) P = Unit {0}
+
+-- what holds of a cover and the ask that it comes with
+abbrev pub IfSplits : Turned → (Parts → Ask → Type 0) → Type 0
+IfSplits (Refuted p) P = Unit {0}
+IfSplits (InBox plan) P = Unit {0}
+IfSplits (Spread cover ask) P = P cover ask
+IfSplits (Bare ask) P = Unit {0}
 
 abbrev pub IfBare : Turned → (Ask → Type 0) → Type 0
 IfBare (Refuted p) P = Unit {0}

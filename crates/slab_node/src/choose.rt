@@ -2,9 +2,11 @@
 ghost use Rattle.std.specs.Prelude.{◌≡◌, ◌≤◌, IfOk};
 ghost use Rattle.mill_model.specs.Decisions.{AreAsks};
 ghost use Rattle.slab_decide.specs.Decided.{AreConsistent};
+ghost use Rattle.slab_counter.specs.Counter.{Rose};
 ghost use Rattle.slab_relax.specs.AtNodes.{IsCoverAt};
 ghost use Rattle.slab_node.specs.Choices.{IfSplit, IfWhole};
 ghost use Rattle.slab_node.specs.AtNodes.{IsOpenAskAt, IsInBoxAt};
+ghost use Rattle.slab_node.specs.Turns.{IsFirstPartial};
 
 use crate::Cover;
 use crate::multiples::Multiples;
@@ -42,6 +44,8 @@ pub(crate) fn choose(
     requires consistent { AreConsistent node.now.decisions.now.list }
     ensures split { IfOk result (λ c. IfSplit c (IsOpenAskAt node.now)) }
     ensures whole { IfOk result (λ c. IfWhole c (IsInBoxAt node.now)) }
+    ensures first { (Rose wides.old wides.new → ⊥) → IfOk result (λ c. IfSplit c
+        (IsFirstPartial node.now.mill.now pool.now.columns cover.now)) }
     ensures grows { wides.old ≤ wides.new }
 {
     let Some(multiples) = Multiples::new(alloc, cover.list(), wides)? else {

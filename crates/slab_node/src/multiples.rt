@@ -1,5 +1,6 @@
 //! A cover's multipliers over one denominator.
-ghost use Rattle.std.specs.Prelude.{◌≡◌, ◌≤◌, IfOk, IfSome};
+ghost use Rattle.std.specs.Prelude.{◌≡◌, ◌≤◌, IfOk, IfSome, IfNone};
+ghost use Rattle.slab_counter.specs.Counter.{Rose};
 ghost use Rattle.slab_relax.specs.PoolCovers.{multipliers};
 ghost use Rattle.slab_node.specs.Choices.{AreMultiples};
 
@@ -34,6 +35,7 @@ impl Multiples {
     ) -> Result<Option<Multiples>, AllocError>
         ensures some { IfOk result (λ answer. IfSome answer
             (λ m. AreMultiples cover.now m.whole m.times.items)) }
+        ensures none { IfOk result (λ answer. IfNone answer (Rose wides.old wides.new)) }
         ensures grows { wides.old ≤ wides.new }
     {
         let list = multipliers(alloc, cover)?;

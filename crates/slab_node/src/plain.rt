@@ -108,6 +108,7 @@ pub(crate) fn plain_prices(
         (λ p. (decisions : List Decision) → Refutes mill.now limits decisions p)) }
     ensures none { IfOk result (λ answer. IfNone answer (¬ IsPlainlyRefuted mill.now limits)) }
 {
+    // It tells that the mill's numbers are within their limits.
     let _limits = mill.sizes();
     if is_below_zero(limits.loss) {
         return Ok(Some(bare_prices(alloc, mill, 1, 0)?));

@@ -24,6 +24,7 @@ impl Settlement {
         requires { IsSettledNode node.now }
         ensures { IfOk result (IsSettlement node.now) }
     {
+        // It tells that a mill has few orders.
         let _few = node.mill.orders();
         let heads = firsts_of(alloc, node)?;
         let slabs = slabs_of(alloc, node)?;

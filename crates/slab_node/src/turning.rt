@@ -9,7 +9,7 @@ ghost use Rattle.slab_relax.specs.PoolCovers.{IsPoolCover, HasLeastLoss};
 ghost use Rattle.slab_relax.specs.AtNodes.{RefutesAt, IsCoverAt, HasLeastLossAt};
 ghost use Rattle.slab_relax.specs.Tallies.{AreNoLess, HasCause};
 ghost use Rattle.slab_node.specs.AtNodes.{IsInBoxAt, IsOpenAskAt};
-ghost use Rattle.slab_node.specs.Turns.{most_columns, emptied, IsNode, IsInBox, IsOpenAsk, IfRefuted, IfInBox, IfSpread, IfBare, IfAsks, IsRefuted, IsClosed, IsTurn};
+ghost use Rattle.slab_node.specs.Turns.{most_columns, emptied, IsNode, IsInBox, IsOpenAsk, IsFirstPartial, IfRefuted, IfInBox, IfSpread, IfSplits, IfBare, IfAsks, IsRefuted, IsClosed, IsTurn};
 
 use crate::choose::{Choice, choose};
 use crate::plain::plain_prices;
@@ -55,6 +55,8 @@ fn turn_open(
     ensures ask { IfOk result (λ t. IfAsks t (IsOpenAskAt node.now)) }
     ensures least { (HasCause tally.old tally.new → ⊥)
         → IfOk result (λ t. IfSpread t (HasLeastLossAt node.now pool.new.columns)) }
+    ensures partial { (HasCause tally.old tally.new → ⊥)
+        → IfOk result (λ t. IfSplits t (IsFirstPartial node.now.mill.now pool.new.columns)) }
     ensures counters { AreNoLess tally.old tally.new }
     ensures grown { HasGrown pool.old pool.new }
 {
@@ -103,6 +105,10 @@ pub fn turn(
     ensures least { (HasCause tally.old tally.new → ⊥)
         → IfOk result (λ t. IfSpread t
         (HasLeastLoss mill.now limits decisions.now.list pool.new.columns)) }
+
+    // And its ask is the first that it answers in part: pairs come before puts.
+    ensures partial { (HasCause tally.old tally.new → ⊥)
+        → IfOk result (λ t. IfSplits t (IsFirstPartial mill.now pool.new.columns)) }
 
     // The same in short, for a search that doesn't keep the pool.
     ensures turned { IfOk result (IsTurn mill.now limits decisions.now.list tally.old tally.new) }

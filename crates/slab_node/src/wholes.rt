@@ -41,6 +41,8 @@ fn add_at(sums: &mut [u128], places: &[u16], amount: u128)
 fn first_partial(sums: &[u128], from: usize, whole: u128) -> Option<usize>
     ensures some { IfSome result (λ j. (from ≤ j) × (j < length sums.now)
         × (0 < slice_index sums.now j) × (slice_index sums.now j < whole)) }
+    ensures first { IfSome result (λ j. (k : ℕ) → from ≤ k → k < j
+        → 0 < slice_index sums.now k → slice_index sums.now k < whole → ⊥) }
     ensures none { IfNone result ((j : ℕ) → from ≤ j → j < length sums.now
         → 0 < slice_index sums.now j → slice_index sums.now j < whole → ⊥) }
 {
@@ -53,7 +55,7 @@ fn first_partial(sums: &[u128], from: usize, whole: u128) -> Option<usize>
 }
 
 impl Wholes<'_> {
-    ghost use Rattle.slab_node.specs.OfWholes.{share_in, IsPartialIn, HasWholePairs, HasWholePuts, IsWholeIn};
+    ghost use Rattle.slab_node.specs.OfWholes.{share_in, IsPartialIn, HasNoneBefore, HasNoPutBefore, HasWholePairs, HasWholePuts, IsWholeIn};
 
     // For each order, how much of the cover has it together with this one.
     fn pair_shares(&self, order: u16, shares: &mut [u128])
@@ -98,6 +100,7 @@ impl Wholes<'_> {
     // The first pair that the cover answers in part.
     fn partial_pair(&self, alloc: Global) -> Result<Option<Ask>, AllocError>
         ensures some { IfOk result (λ found. IfSome found (IsPartialIn self.now)) }
+        ensures first { IfOk result (λ found. IfSome found (HasNoneBefore self.now)) }
         ensures none { IfOk result (λ found. IfNone found (HasWholePairs self.now)) }
     {
         let count = self.node.mill.orders().len();
@@ -114,6 +117,7 @@ impl Wholes<'_> {
     // The first put that it answers in part.
     fn partial_put(&self, alloc: Global) -> Result<Option<Ask>, AllocError>
         ensures some { IfOk result (λ found. IfSome found (IsPartialIn self.now)) }
+        ensures first { IfOk result (λ found. IfSome found (HasNoPutBefore self.now)) }
         ensures none { IfOk result (λ found. IfNone found (HasWholePuts self.now)) }
     {
         let count = self.node.mill.yard().len();
@@ -130,6 +134,7 @@ impl Wholes<'_> {
     // The first question that the cover answers in part, if any: pairs come before puts.
     pub(crate) fn partial_ask(&self, alloc: Global) -> Result<Option<Ask>, AllocError>
         ensures some { IfOk result (λ found. IfSome found (IsPartialIn self.now)) }
+        ensures first { IfOk result (λ found. IfSome found (HasNoneBefore self.now)) }
         ensures none { IfOk result (λ found. IfNone found (IsWholeIn self.now)) }
     {
         match self.partial_pair(alloc)? {

@@ -1,6 +1,7 @@
 //! The sets of colours, one after the other.
 ghost use Rattle.std.specs.Prelude.{◌≡◌, ◌+◌, ◌^◌, ◌≤◌, ℕ, pos, ◌≤ℤ◌, true, List, unsigned_abs, length, []};
 ghost use Rattle.std.specs.Bool.{OnTrue};
+ghost use Rattle.mill_model.specs.Mill.{most_colour_limit};
 ghost use Rattle.mill_model.specs.Columns.{has};
 ghost use Rattle.pricing_laws.specs.Colours.{AreOf};
 ghost use Rattle.pricing_laws.specs.Parts.{left_of};
@@ -23,7 +24,7 @@ use std::alloc::Global;
 pub(crate) struct Space {
     pub colours: SmallVec<u16, 3>,
     pub queue: Queue,
-    ghost room: { 3 ≤ colours.capacity },
+    ghost room: { most_colour_limit ≤ colours.capacity },
 }
 
 impl Space {
@@ -57,7 +58,7 @@ impl Search<'_> {
     // Whether no column of the colours taken and of some of those left exceeds more than the best.
     fn is_hopeless(&self, rank: usize, left: u16, worth: i128, best: i128) -> bool
         requires rank { rank ≤ length self.now.frame.now.ranking.items }
-        requires left { left ≤ 3 }
+        requires left { left ≤ most_colour_limit }
         requires small { unsigned_abs worth ≤ 2 ^ 100 }
         ensures { (taken : List ℕ) → AreTakenFrom (search_of self.now) rank taken worth
             → OnTrue result

@@ -63,6 +63,7 @@ impl Restricted {
         ensures restricted { self.new ≡ self.old }
         ensures counters { AreNoLess tally.old tally.new }
     {
+        // It tells that a pool's columns are legal.
         let _legal = pool.len();
         let losses = self.losses(alloc, node, pool)?;
         let solved = self

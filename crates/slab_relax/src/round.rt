@@ -81,6 +81,7 @@ impl Restricted {
         ensures pool { IsPool pool.new }
         ensures counters { AreNoLess tally.old tally.new }
     {
+        // This and `_after` tell what holds of every pool.
         let _before = pool.len();
         let solved = self
             .master

@@ -39,6 +39,7 @@ impl Restricted {
         ensures value { IfOk result (λ cover. cover ≡ used_of self.now.ids.items multipliers.now) }
         ensures covers { IfOk result (IsCoverAt node.now pool.now.columns) }
     {
+        // It tells that a pool's columns are legal.
         let _legal = pool.len();
         self.used(alloc, multipliers)
     }

@@ -1,5 +1,6 @@
 // Each call of a desk fails in turn.
 use crate::desks::Files;
+use crate::resume::CUT;
 use crate::row::{Row, failing_row, run_row};
 use slab_desk::Act;
 use std::alloc::Global;
@@ -8,11 +9,12 @@ use std::test::Fail;
 // More calls of one kind than any run here makes.
 const MANY: u32 = 1000;
 
-// The words, the plan file, and the yard file.
-fn runs() -> [(&'static str, &'static str, &'static str); 2] {
+// The words, the plan file or the cut, and the yard file.
+fn runs() -> [(&'static str, &'static str, &'static str); 3] {
     [
         ("solve orders cert --yard yard", "", "1 9"),
         ("judge orders plan --yard yard", "2 old 1 old 1 1 2", "1 9"),
+        ("resume orders plan cert", CUT, "0"),
     ]
 }
 
@@ -43,7 +45,7 @@ fn failures(
 ) -> Result<bool, Fail> {
     for call in 1..MANY {
         match failing_row(alloc, words, files, act, call)? {
-            Some(short) if !stops(&short, whole, act, call) => return Ok(false),
+            Some(short) if !stops(&short, whole, act) => return Ok(false),
             Some(_) => {}
             None => return Ok(true),
         }
@@ -51,15 +53,16 @@ fn failures(
     Ok(false)
 }
 
-// The status is 5, no call comes after the failure, and what was said and stored begins as without it.
-fn stops(short: &Row, whole: &Row, act: Act, call: u32) -> bool {
-    let uncreated = act == Act::Create && call == 1;
+// The status is 5, no call comes after the failure, and what was said and stored begins as without it. A certificate is there only
+// where a create succeeded, and a run makes one.
+fn stops(short: &Row, whole: &Row, act: Act) -> bool {
+    let created = act == Act::Write || act == Act::Say;
     short.status == 5
         && short.faults == 1
         && short.stopped
         && whole.said.starts_with(&short.said)
         && begins(short, whole)
-        && (!uncreated || short.stored.is_none())
+        && (created || short.stored.is_none())
 }
 
 // What was stored begins as without a failure.

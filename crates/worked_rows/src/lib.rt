@@ -12,6 +12,8 @@ mod judge;
 mod many;
 #[cfg(test)]
 mod memory;
+#[cfg(test)]
+mod resume;
 pub mod row;
 #[cfg(test)]
 mod solve;

@@ -18,8 +18,18 @@ pub struct Row {
 
 /// The run of these words, parted by single spaces, over these files. The certificate is the file `cert`.
 pub fn run_row(alloc: Global, words: &str, files: Files<'_>) -> Result<Row, AllocError> {
+    storing_row(alloc, words, files, "cert")
+}
+
+/// The same where the certificate is the file of this name.
+pub fn storing_row(
+    alloc: Global,
+    words: &str,
+    files: Files<'_>,
+    cert: &str,
+) -> Result<Row, AllocError> {
     let mut desk = desk_of(alloc, files.orders, files.plan, files.yard, Vec::new(alloc))?;
-    ended(alloc, words, &mut desk)
+    ended(alloc, words, &mut desk, cert)
 }
 
 /// The same where the k-th call of this kind fails; none where there were fewer of them.
@@ -32,16 +42,16 @@ pub fn failing_row(
 ) -> Result<Option<Row>, AllocError> {
     let failing = vec![in alloc; (act, call)]?;
     let mut desk = desk_of(alloc, files.orders, files.plan, files.yard, failing)?;
-    let row = ended(alloc, words, &mut desk)?;
+    let row = ended(alloc, words, &mut desk, "cert")?;
     if desk.calls(act) < call {
         return Ok(None);
     }
     Ok(Some(row))
 }
 
-fn ended(alloc: Global, words: &str, desk: &mut MemDesk) -> Result<Row, AllocError> {
+fn ended(alloc: Global, words: &str, desk: &mut MemDesk, cert: &str) -> Result<Row, AllocError> {
     let status = status_of(alloc, words, desk)?;
-    let stored = match desk.file("cert") {
+    let stored = match desk.file(cert) {
         Some(bytes) => Some(bytes.to_vec(alloc)?),
         None => None,
     };

@@ -12,6 +12,8 @@ const THREE_COLOURS: &str = "1 9 3 3 3 1 3 2 3 3";
 
 const THREE_FIVES: &str = "1 10 1 3 5 1 5 1 5 1";
 
+const FIVE_FIVES: &str = "1 10 1 5 5 1 5 1 5 1 5 1 5 1";
+
 // The run of `solve orders cert` and these options.
 fn solved(alloc: Global, orders: &str, yard: &str, options: &str) -> Result<Row, AllocError> {
     let words = format!(in alloc; "solve orders cert{options}")?;
@@ -26,7 +28,7 @@ fn solved(alloc: Global, orders: &str, yard: &str, options: &str) -> Result<Row,
 // Order file, yard file, options, status, and what is said.
 type Said = (&'static str, &'static str, &'static str, u8, &'static str);
 
-fn fronts() -> [Said; 10] {
+fn fronts() -> [Said; 11] {
     let front = "front 1\npoint 0 1\nnew 10 1 2\nnodes 2 bare 0\ncomplete\n";
     let fives = "front 1\npoint 5 2\nnew 10 1 2\nnew 10 3\nnodes 4 bare 0\ncomplete\n";
     [
@@ -74,6 +76,7 @@ fn fronts() -> [Said; 10] {
             4,
             "front 0\nnodes 1 bare 0\nnoplan\n",
         ),
+        (THREE_FIVES, "", "", 0, fives),
         (THREE_FIVES, "", " --nodes 3", 0, fives),
         (
             THREE_FIVES,
@@ -115,7 +118,7 @@ fn points() -> [(&'static str, &'static str, &'static str, &'static str); 6] {
         ),
         (TWO, "1 8 1 2 1", " --yard yard", both),
         (
-            "1 10 1 5 5 1 5 1 5 1 5 1 5 1",
+            FIVE_FIVES,
             "",
             "",
             "front 1\npoint 5 3\nnew 10 1 2\nnew 10 3 4\nnew 10 5\nnodes ",
@@ -128,8 +131,16 @@ fn a_front_has_its_points(rt: HostRuntime) -> Result<(), Fail> {
     for (orders, yard, options, said) in points() {
         let row = solved(rt.alloc(), orders, yard, options)?;
         assert!(rt; row.said.starts_with(said.as_bytes()), "{said}");
+        assert!(rt; row.said.ends_with(b"\ncomplete\n"), "{said}");
         assert_eq!(rt; row.status, 0, "{said}");
     }
+    Ok(())
+}
+
+#[test]
+fn a_search_needs_no_bare_split(rt: HostRuntime) -> Result<(), Fail> {
+    let row = solved(rt.alloc(), FIVE_FIVES, "", "")?;
+    assert!(rt; row.said.ends_with(b" bare 0\ncomplete\n"));
     Ok(())
 }
 
@@ -171,6 +182,9 @@ fn holds(row: &Row, stored: &str) -> bool {
 fn a_split_shows_its_cover(rt: HostRuntime) -> Result<(), Fail> {
     let row = solved(rt.alloc(), THREE_FIVES, "", "")?;
     for (line, count) in [
+        ("pair ", 1),
+        ("put ", 0),
+        ("spread ", 1),
         ("spread 2", 1),
         ("cnew 1 10 1 2", 1),
         ("cnew 1 10 1 3", 1),
@@ -183,14 +197,14 @@ fn a_split_shows_its_cover(rt: HostRuntime) -> Result<(), Fail> {
     Ok(())
 }
 
-// How many lines of the certificate are this one.
+// How many lines of the certificate are this one, or begin with it where it ends with a space.
 fn lines_of(row: &Row, line: &str) -> usize {
     let Some(bytes) = &row.stored else {
         return 0;
     };
     let mut count = 0usize;
     for part in bytes.split(|byte| *byte == b'\n') {
-        if part == line.as_bytes() {
+        if part == line.as_bytes() || line.ends_with(' ') && part.starts_with(line.as_bytes()) {
             count = count.saturating_add(1);
         }
     }

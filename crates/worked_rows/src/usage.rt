@@ -4,7 +4,7 @@ use crate::row::run_row;
 use std::test::Fail;
 
 // The words, and what is said of them.
-fn words() -> [(&'static str, &'static str); 6] {
+fn words() -> [(&'static str, &'static str); 8] {
     [
         ("", "usage word 1\n"),
         ("solve a", "usage word 3\n"),
@@ -12,6 +12,8 @@ fn words() -> [(&'static str, &'static str); 6] {
         ("solve a b --yard y --yard z", "usage word 6\n"),
         ("solve a b --colours 4", "usage word 5\n"),
         ("judge a b --colours 4", "usage word 5\n"),
+        ("resume a b", "usage word 4\n"),
+        ("resume a b c --nodes 0", "usage word 6\n"),
     ]
 }
 

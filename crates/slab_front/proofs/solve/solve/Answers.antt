@@ -1,8 +1,9 @@
-use Rattle.std.proofs.Common.{refl, [], List, ℕ}
+use Rattle.std.proofs.Common.{refl, subst, [], List, ℕ}
+use Rattle.mill_model.specs.Fronts.{Point}
 use Rattle.slab_relax.specs.declared.tally.Tally.{Tally}
 use Rattle.slab_front.specs.Words.{MillWords}
 use Rattle.slab_front.specs.Jobs.{named_mill}
-use Rattle.slab_front.specs.Searched.{Searched, status_of}
+use Rattle.slab_front.specs.Searched.{Searched, IsSearched, status_of}
 use Rattle.slab_front.specs.Owed.{OwesOfMill, OwesSearch, stored_as}
 use Rattle.slab_front.specs.Endings.{HasMill}
 use Rattle.slab_front.proofs.Owing.{owes_mill}
@@ -17,7 +18,8 @@ returns-clause-answer g c =
     let is : Tally = c.search_front.new.tally in
     let mill = c.in_ok-mill.mill in
     let s : Searched = c.in_ok-search.search in
+    let found : IsSearched mill [] c.args.limit was is (status_of s) s = subst (λ (ps : List Point). IsSearched mill ps c.args.limit was is (status_of s) s) c.no_points.ensures c.in_ok-search.ensures.found in
     told_each (HasMill words mill) (λ files. OwesOfMill (OwesSearch (stored_as name) [] c.args.limit was is) files words (status_of s) (stored_as name mill s))
     (g.D.Desk.told c.args.desk.now)
-    (λ files has. owes_mill (OwesSearch (stored_as name) [] c.args.limit was is) files words mill (status_of s) (stored_as name mill s) has (s, c.in_ok-search.ensures.found, refl))
+    (λ files has. owes_mill (OwesSearch (stored_as name) [] c.args.limit was is) files words mill (status_of s) (stored_as name mill s) has (s, found, refl))
     c.in_ok-mill.ensures.mill

@@ -3,6 +3,7 @@ use Rattle.mill_model.specs.Columns.{Column, IsLegalColumn, column_of}
 use Rattle.slab_columns.specs.declared.column.ColId.{ColId}
 use Rattle.slab_columns.specs.Flat.{columns_of}
 use Rattle.slab_columns.specs.Index.{key_of}
+use Rattle.slab_columns.specs.Pool.{most_columns}
 use Rattle.slab_columns.specs.Recency.{AreBelow}
 use Rattle.slab_columns.proofs.FlatColumns.{length-columns_of, length-starts_push, AreBelow-more}
 use Rattle.slab_columns.proofs.Growth.{IsPool-push, IsIndex-push, NotesAlso}
@@ -18,7 +19,7 @@ invariant_of-self-2 c =
     let grown : columns_of c.append_column.new.all.items c.append_column.new.starts.items ≡ columns ++ column ∷ [] = rw (← c.reserve.ensures.items, ← c.reserve-2.ensures.items) c.append_column.ensures.columns in
     let legal : IsLegalColumn c.self.inside.mill column = rw (← c.self.view_is) at c.requires in
     let len : c.len-id.result ≡ length columns = c.len-id.ensures ∙ c.self.inside.starts.ok.0 ∙ sym (length-columns_of orders starts) in
-    let room : length columns < 8192 = omega (arith, c.self.invariant.pool.few) in
+    let room : length columns < most_columns = omega (arith, c.self.invariant.pool.few) in
     let fresh : ¬ Contains columns column = rw (← c.self.view_is) at (let absent : ¬ Contains c.args.self.now.columns column = c.in_default.ensures.none in absent) in
     let also : NotesAlso c.self.inside.index c.note.new.index (key_of column) (length columns) = rw (← len, ← c.key_of-key.ensures) (c.in_ok-note.ensures.ok) in
     let longer : length c.append_column.new.starts.items ≡ length starts + 1 = length-starts_push orders c.append_column.new.all.items starts c.append_column.new.starts.items column grown in

@@ -1,34 +1,13 @@
-use Rattle.std.proofs.Common.{◌≡◌, ℕ, ◌+◌, ◌*◌, ◌/◌, pos, get_or, sym, subst, ◌∙◌, arith, to_z, of_z}
-use Rattle.std.specs.Int.{w128}
-use Rattle.std.proofs.lemmas.Int.{ints}
-use Rattle.std.proofs.lemmas.List.{get_or_default}
-use Rattle.pricing_laws.specs.Hunts.{IsMostIn}
-use Rattle.pricing_laws.proofs.Hunting.{entry_inside, entry_most, entry_small, most_of_none}
+use Rattle.std.proofs.Common.{arith}
+use Rattle.pricing_laws.proofs.Steps.{end_read, entry_read, entry_read_small}
 use Rattle.slab_price.specs.Hunts.{hunt_of}
 use Rattle.slab_price.proofs.hunt.Hunt.most.Goals as goal
 
 pub returns-then-left-eq0-clause-most : goal.returns-then-left-eq0-clause-most
-returns-then-left-eq0-clause-most c =
-    let h = c.args.self.now in
-    let ends = h.search.frame.now.ends.items in
-    let none : c.args.left ≡ 0 = omega (arith, c.if-left-eq0.true) in
-    let value : c.index.result.now ≡ get_or ends c.args.load (pos 0) = c.index.ensures ∙ get_or_default ends c.args.load c.index.result.now (pos 0) c.requires.load in
-    let back : to_z w128 (of_z w128 c.index.result.now) ≡ get_or ends c.args.load (pos 0) = omega (arith, ints, value, h.search.framed.ends.small c.args.load c.requires.load) in
-    subst (IsMostIn (hunt_of h) c.args.left c.args.load) (sym back) (subst (λ (k : ℕ). IsMostIn (hunt_of h) k c.args.load (get_or ends c.args.load (pos 0))) (sym none) (most_of_none (hunt_of h) c.args.load))
+returns-then-left-eq0-clause-most c = end_read (hunt_of c.args.self.now) c.args.left c.args.load c.index.result.now (omega (arith, c.if-left-eq0.true)) c.requires.load c.index.ensures
 
 pub returns-clause-most : goal.returns-clause-most
-returns-clause-most c =
-    let h = c.args.self.now in
-    let table = h.queue.now.table.items in
-    let place : ℕ = c.args.left * h.queue.now.width + c.args.load / h.queue.now.step in
-    let value : c.index-2.result.now ≡ get_or table place (pos 0) = c.index-2.ensures ∙ get_or_default table place c.index-2.result.now (pos 0) (entry_inside (hunt_of h) c.args.left c.args.load c.requires.left c.requires.load) in
-    let back : to_z w128 (of_z w128 c.index-2.result.now) ≡ get_or table place (pos 0) = omega (arith, ints, value, entry_small (hunt_of h) c.args.left c.args.load c.requires.left c.requires.load) in
-    subst (IsMostIn (hunt_of h) c.args.left c.args.load) (sym back) (entry_most (hunt_of h) c.args.left c.args.load c.requires.left c.requires.load)
+returns-clause-most c = entry_read (hunt_of c.args.self.now) c.args.left c.args.load c.index-2.result.now c.requires.left c.requires.load c.index-2.ensures
 
 pub returns-clause-small : goal.returns-clause-small
-returns-clause-small c =
-    let h = c.args.self.now in
-    let table = h.queue.now.table.items in
-    let place : ℕ = c.args.left * h.queue.now.width + c.args.load / h.queue.now.step in
-    let value : c.index-2.result.now ≡ get_or table place (pos 0) = c.index-2.ensures ∙ get_or_default table place c.index-2.result.now (pos 0) (entry_inside (hunt_of h) c.args.left c.args.load c.requires.left c.requires.load) in
-    omega (arith, ints, value, entry_small (hunt_of h) c.args.left c.args.load c.requires.left c.requires.load)
+returns-clause-small c = entry_read_small (hunt_of c.args.self.now) c.args.left c.args.load c.index-2.result.now c.requires.left c.requires.load c.index-2.ensures
