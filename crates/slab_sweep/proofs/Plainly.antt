@@ -1,19 +1,15 @@
 -- A mill whose starter tells a plan without loss, with fewer new slabs than which all is plainly refuted.
-use Rattle.std.proofs.Common.{◌≡◌, ◌+◌, ◌≤◌, ℤ, pos, ◌+ℤ◌, ◌*ℤ◌, ◌<ℤ◌, List, [], ◌∷◌, refl, sym, ap, subst, ◌∙◌, inl, inr, arith, Option, Some, None}
-use Rattle.std.specs.Prelude.{IfSome, IsSomeAnd}
-use Rattle.std.specs.List.{sum}
+use Rattle.std.proofs.Common.{◌≡◌, ◌+◌, ◌≤◌, ℤ, pos, List, [], ◌∷◌, refl, sym, ap, subst, ◌∙◌, inl, arith, Option, Some, None}
+use Rattle.std.specs.Prelude.{IfSome}
 use Rattle.std.proofs.lemmas.Int.{ints}
 use Rattle.mill_model.specs.declared.sums.Sums.{Sums}
 use Rattle.mill_model.specs.declared.limits.Limits.{Limits}
 use Rattle.mill_model.specs.Mill.{Mill, IsInLimits}
-use Rattle.mill_model.specs.Plans.{Plan, IsLegal, sums_of}
-use Rattle.mill_model.specs.Prices.{Refutes}
-use Rattle.mill_model.specs.Limits.{AtMost, IsWithin}
-use Rattle.mill_model.specs.Plain.{IsPlainlyRefuted, loss_prices, count_prices, weight_prices, greatest_size, total_weight}
+use Rattle.mill_model.specs.Plans.{Plan, sums_of}
+use Rattle.mill_model.specs.Limits.{AtMost}
+use Rattle.mill_model.specs.Plain.{IsPlainlyRefuted}
 use Rattle.mill_model.specs.Starts.{IsStart, IsAsTold}
 use Rattle.mill_model.specs.Fronts.{Point, last_sums}
-use Rattle.mill_model.proofs.PlanCover.{refuted}
-use Rattle.mill_model.proofs.PlainPrices.{loss_refutes, count_refutes, weight_refutes}
 use Rattle.slab_tree.specs.Counts.{Counts}
 use Rattle.slab_tree.specs.Searches.{IsLeast, KeepsBest}
 use Rattle.slab_tree.proofs.Limits.{at_most_refl, plain_smaller}
