@@ -14,3 +14,4 @@ pub mod ShownCovers
 pub mod Remainders
 pub mod Rewriting
 pub mod Finds
+pub mod Plainly

@@ -13,7 +13,7 @@ use Rattle.mill_model.specs.Decisions.{Decision}
 use Rattle.mill_model.specs.Paths.{next_branch}
 use Rattle.slab_master.specs.Given.{IsSmall}
 use Rattle.slab_node.specs.Turns.{IsOpenAsk}
-use Rattle.slab_tree.specs.FoundPlans.{IsFoundPlan}
+use Rattle.slab_repack.specs.FoundPlans.{IsFoundPlan}
 use Rattle.slab_tree.specs.declared.node.Node.{Node}
 use Rattle.slab_tree.specs.declared.node.Node.TheVariants.{Closed, Branched}
 use Rattle.slab_tree.specs.declared.tree.Phase.TheVariants.{Done, Refused}

@@ -8,7 +8,6 @@ pub mod Searches
 pub mod Stepping
 pub mod Asking
 pub mod Trails
-pub mod FoundPlans
 pub mod Remainders
 pub mod Showing
 pub mod Keeping

@@ -3,7 +3,7 @@
 ghost use Rattle.std.specs.Prelude.{◌≡◌, IfOk, IfSome};
 ghost use Rattle.slab_relax.specs.Tallies.{AreNoLess};
 ghost use Rattle.slab_node.specs.Turns.{IsNode};
-ghost use Rattle.slab_tree.specs.FoundPlans.{IsFoundPlan};
+ghost use Rattle.slab_repack.specs.FoundPlans.{IsFoundPlan};
 ghost use Rattle.slab_tree.specs.Trails.{HasExtentOf};
 
 use crate::records::ONE;

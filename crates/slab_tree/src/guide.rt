@@ -1,13 +1,16 @@
 //! What guides a run, and what no contract rests on: at which loss a node's turn aims, and what became of branches.
 
-ghost use Rattle.std.specs.Prelude.{◌≡◌, ◌⊎◌, IfOk};
+ghost use Rattle.std.specs.Prelude.{◌≡◌, ◌⊎◌, IfOk, IfSome};
 ghost use Rattle.mill_model.specs.Limits.{AreSmaller, number_of};
 ghost use Rattle.slab_master.specs.Given.{IsSmall};
+ghost use Rattle.slab_repack.specs.FoundPlans.{IsFoundPlan};
 ghost use Rattle.slab_tree.specs.Asking.{AreThere, IsOpenAskOf, extent_of};
 
 use crate::bounding::smaller_limits;
+use crate::neighbours::Neighbours;
 use crate::questions::Questions;
-use mill_model::{Ask, Limits};
+use loss_table::LossTable;
+use mill_model::{Ask, Limits, Mill, Plan};
 use slab_columns::Pool;
 use slab_decide::Decisions;
 use slab_node::Cover;
@@ -15,7 +18,7 @@ use std::alloc::{AllocError, Global};
 use std::marker::Model;
 
 // The number of dives at the first split.
-const FIRST_DIVES: u32 = 4;
+const FIRST_DIVES: u32 = 3;
 
 // So many shares of covers are kept with the splits that one run makes, about 60 bytes each. A later cover is found anew where the
 // tree is tightened.
@@ -25,6 +28,7 @@ const MOST_SHARES: usize = 4_000_000;
 #[derive(Drop)]
 pub(crate) struct Guide {
     questions: Questions,
+    neighbours: Neighbours,
     // The least loss of the next node that no prices refuted yet, and that of each node above it.
     aim: i64,
     above: Vec<i64>,
@@ -44,11 +48,18 @@ impl Model for Guide {
 }
 
 impl Guide {
-    pub(crate) fn new(alloc: Global, orders: u16, yard: u16) -> Result<Guide, AllocError>
+    pub(crate) fn new(
+        alloc: Global,
+        mill: &Mill,
+        table: &LossTable,
+        orders: u16,
+        yard: u16,
+    ) -> Result<Guide, AllocError>
         ensures { IfOk result (λ made. made ≡ record { orders = orders; yard = yard }) }
     {
         Ok(Guide {
             questions: Questions::new(alloc, orders, yard)?,
+            neighbours: Neighbours::new(alloc, mill, table)?,
             aim: 0,
             above: Vec::new(alloc),
             dives: 0,
@@ -83,6 +94,40 @@ impl Guide {
         ensures extent { self.new ≡ self.old }
     {
         self.questions.choose(pool, cover, decisions, first)
+    }
+
+    // A plan within the limits that is near the best one, sought before the first turn, or none: also at any later turn.
+    pub(crate) fn begin(
+        &mut self,
+        alloc: Global,
+        mill: &Mill,
+        best: Option<&Plan>,
+        limits: Limits,
+    ) -> Result<Option<Plan>, AllocError>
+        ensures found { IfOk result (λ found. IfSome found (IsFoundPlan mill.now limits)) }
+        ensures extent { self.new ≡ self.old }
+    {
+        self.neighbours.begin(alloc, mill, best, limits)
+    }
+
+    // A plan within the limits that is near a cover of the next node, where so many nodes are decided, or none.
+    pub(crate) fn seek(
+        &mut self,
+        alloc: Global,
+        mill: &Mill,
+        pool: &Pool,
+        cover: &Cover,
+        limits: Limits,
+        nodes: usize,
+    ) -> Result<Option<Plan>, AllocError>
+        requires { AreThere pool.now.columns cover.now }
+        ensures found { IfOk result (λ found. IfSome found (IsFoundPlan mill.now limits)) }
+        ensures extent { self.new ≡ self.old }
+    {
+        let least = self.above.first().copied().unwrap_or(self.aim);
+        let enough = u32::try_from(least).unwrap_or(0);
+        self.neighbours
+            .seek(alloc, mill, pool, cover, limits, enough, nodes)
     }
 
     // The next node, whose decisions are the path, is split.

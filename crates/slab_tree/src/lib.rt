@@ -4,15 +4,15 @@
 //! turn at a smaller loss limit) and `showing` (a cover as a split's mark), then `tree` with its parts: `tree::run` searches,
 //! `tree::tighten` writes a finished tree anew (over `rest` and `keeping`), `tree::ends` hands the tree out. What only makes it fast
 //! comes after that: `guide` with `questions`, `shares` and `records` chooses the question to split on, `rounding` with `filling`
-//! and `in_order` makes plans of covers, `dives` with `trail` looks for plans below a node.
+//! makes plans of covers, `neighbours` seeks plans near them, `dives` with `trail` looks for plans below a node.
 #![tactic(auto)]
 
 mod bounding;
 mod dives;
 mod filling;
 mod guide;
-mod in_order;
 mod keeping;
+mod neighbours;
 mod node;
 mod nodes;
 mod path;

@@ -10,7 +10,7 @@ ghost use Rattle.slab_relax.specs.Tallies.{AreNoLess, HasCause, HaveCauses};
 ghost use Rattle.slab_node.specs.Turns.{IsOpenAsk, IsUndecided};
 ghost use Rattle.slab_tree.specs.Asking.{AreThere, extent_of};
 ghost use Rattle.slab_tree.specs.Counts.{IsCountedSplit};
-ghost use Rattle.slab_tree.specs.FoundPlans.{IsFoundPlan};
+ghost use Rattle.slab_repack.specs.FoundPlans.{IsFoundPlan};
 ghost use Rattle.slab_tree.specs.Marking.{is_bare};
 ghost use Rattle.slab_tree.specs.Standing.{IsOpenPath};
 ghost use Rattle.slab_tree.specs.Searches.{HasBareEnd, IsReady, IsRunning, IsEnded, IsAnswer, IsSameQuestion, AreRaisedBy, limits_of, bare_count};
@@ -106,7 +106,7 @@ impl Tree {
         let _counted = nodes.opened();
         let orders = mill.orders().len() as u16;
         let yard = mill.yard().len() as u16;
-        let mut guide = Guide::new(alloc, orders, yard)?;
+        let mut guide = Guide::new(alloc, mill, table, orders, yard)?;
         let mut decisions = Decisions::new(alloc, orders, yard)?;
         self.tell(&mut decisions);
         'nodes: loop {
@@ -125,8 +125,60 @@ impl Tree {
         }
     }
 
-    // Takes one turn at the next node. It answers whether the run goes on.
+    // Takes a plan that is found before the first turn, or else one turn at the next node. It answers whether the run goes on.
     fn step(
+        &mut self,
+        alloc: Global,
+        mill: &Mill,
+        table: &LossTable,
+        decisions: &mut Decisions,
+        guide: &mut Guide,
+        pool: &mut Pool,
+        nodes: &mut Nodes,
+        tally: &mut Tally,
+    ) -> Result<bool, AllocError>
+        requires tree { IsRunning mill.now self.old }
+        requires room { self.old.opened ≤ nodes.old.limit }
+        requires place { IsWorkplace mill.now table.now pool.old decisions.old self.old.path }
+        requires extent { guide.old ≡ extent_of decisions.old }
+        ensures ok { IfOk result (IsStepped mill.now nodes.old.limit self.old self.new) }
+        ensures err { OnErr result (self.new ≡ self.old) }
+        ensures plain { IsPlainlyRefuted mill.now (limits_of self.old) → self.old.path ≡ [] → IfOk result (IsClosedAtOnce self.old self.new) }
+        ensures place { IfOk result (λ on. on ≡ true → IsWorkplace mill.now table.now pool.new decisions.new self.new.path) }
+        ensures extent { IfOk result (λ on. on ≡ true → guide.new ≡ extent_of decisions.new) }
+        ensures mill { pool.new.mill ≡ mill.now }
+        ensures counters { AreNoLess tally.old tally.new }
+        ensures causes { HaveCauses (bare_count self.old.nodes) tally.old (bare_count self.new.nodes) tally.new }
+        ensures bare_end { HasBareEnd self.new → HasCause tally.old tally.new }
+        ensures counts { AreRaisedBy nodes.old nodes.new self.old self.new }
+    {
+        let _counted = nodes.opened();
+        let _orders = mill.orders();
+        match self.first_plan(alloc, mill, guide)? {
+            Some(plan) => {
+                self.lower(mill, plan);
+                Ok(true)
+            }
+            None => self.take_turn(alloc, mill, table, decisions, guide, pool, nodes, tally),
+        }
+    }
+
+    // A plan within the limits that is near the best one, sought before the first turn of a run, or none: also at a later turn.
+    fn first_plan(
+        &self,
+        alloc: Global,
+        mill: &Mill,
+        guide: &mut Guide,
+    ) -> Result<Option<Plan>, AllocError>
+        ensures found { IfOk result (λ found. IfSome found (IsFoundPlan mill.now (limits_of self.now))) }
+        ensures extent { guide.new ≡ guide.old }
+    {
+        let limits = self.limits();
+        guide.begin(alloc, mill, self.best.as_ref(), limits)
+    }
+
+    // Takes one turn at the next node. It answers whether the run goes on.
+    fn take_turn(
         &mut self,
         alloc: Global,
         mill: &Mill,
@@ -255,6 +307,9 @@ impl Tree {
     {
         let limits = self.limits();
         if let Some(plan) = rounded(alloc, mill, table, pool, cover, limits)? {
+            return Ok(Some(plan));
+        }
+        if let Some(plan) = guide.seek(alloc, mill, pool, cover, limits, self.nodes.len())? {
             return Ok(Some(plan));
         }
         for _ in 0..guide.dives_due(self.nodes.len()) {

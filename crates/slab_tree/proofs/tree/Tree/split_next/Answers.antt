@@ -1,7 +1,7 @@
 use Rattle.std.proofs.Common.{◌≡◌, ℕ, ◌+◌, Bool, true, false, List, refl, sym, ap, subst, ◌∙◌, arith, cond}
 use Rattle.std.specs.Prelude.{IfOk, IfSome, OnErr, Option, Result, Ok, Err}
 use Rattle.mill_model.specs.Plans.{Plan}
-use Rattle.slab_tree.specs.FoundPlans.{IsFoundPlan}
+use Rattle.slab_repack.specs.FoundPlans.{IsFoundPlan}
 use Rattle.std.specs.declared.alloc.AllocError.{AllocError}
 use Rattle.std.proofs.lemmas.Result.{IfOk-weaker}
 use Rattle.mill_model.specs.declared.ask.Ask.{Ask}
