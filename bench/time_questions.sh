@@ -4,7 +4,7 @@
 # Usage: bench/time_questions.sh        (builds crates/bench_questions first)
 set -eu
 cd "$(dirname "$0")/../crates/bench_questions"
-rt run >/dev/null
+rt run -- data/two_orders.ord - 2 100 >/dev/null
 program="$PWD/out/bench_questions"
 data="$PWD/../../bench/data"
 said=$(mktemp)
