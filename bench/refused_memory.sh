@@ -4,6 +4,7 @@
 # Usage: bench/refused_memory.sh NUMBER..        (of the allocations to be refused, from 1; each takes some seconds)
 set -eu
 cd "$(dirname "$0")/../crates/worked_rows"
+mkdir -p out
 for number in "$@"; do
     # Other tests may fail, whose own memory is refused.
     rt try --test --fail-alloc "$number" >out/refused 2>&1 || true
