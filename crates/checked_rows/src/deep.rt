@@ -6,31 +6,43 @@ use mill_read::{read_orders, read_yard};
 use std::alloc::{AllocError, Global};
 use std::test::Fail;
 
-// Six orders that no size holds, and two surplus slabs that hold none: 27 questions.
-const ORDERS: &[u8] = b"1 4 1 6 5 1 5 1 5 1 5 1 5 1 5 1";
+// The greatest mill: 250 orders that no size holds, and 40 surplus slabs that hold none.
+const QUESTIONS: u64 = 41_125;
 
-const YARD: &[u8] = b"2 4 4";
-
-const LEAF: &str = "leaf 0 0 1 0 0 0 0 0 0 0\n";
-
-const QUESTIONS: u64 = 27;
+// A text, so many times one behind the other, behind its beginning.
+fn repeated(alloc: Global, begin: &str, text: &str, count: u16) -> Result<String, AllocError> {
+    let mut whole = format!(in alloc; "{begin}")?;
+    for _ in 0..count {
+        whole.push_str(text)?;
+    }
+    Ok(whole)
+}
 
 fn mill(alloc: Global) -> Result<Mill, Fail> {
-    let mut mill = read_orders(alloc, ORDERS)?;
-    let yard = read_yard(alloc, &mill, YARD)?;
+    let orders = repeated(alloc, "1 4 1 250", " 5 1", 250)?;
+    let mut mill = read_orders(alloc, orders.as_bytes())?;
+    let slabs = repeated(alloc, "40", " 4", 40)?;
+    let yard = read_yard(alloc, &mill, slabs.as_bytes())?;
     mill.put_yard(yard);
     Ok(mill)
 }
 
+// A leaf whose prices are 0, but for that of the first order.
+fn leaf(alloc: Global) -> Result<String, AllocError> {
+    let mut line = repeated(alloc, "leaf 0 0 1", " 0", 289)?;
+    line.push_str("\n")?;
+    Ok(line)
+}
+
 // All questions, each below the answer yes of the one before.
 fn feed_questions(alloc: Global, checker: &mut Checker<'_>) -> Result<(), AllocError> {
-    for i in 1..6u16 {
-        for j in i + 1..7 {
+    for i in 1..250u16 {
+        for j in i + 1..251 {
             checker.feed(format!(in alloc; "pair {i} {j}\n")?.as_bytes());
         }
     }
-    for o in 1..7u16 {
-        for s in 1..3u16 {
+    for o in 1..251u16 {
+        for s in 1..41u16 {
             checker.feed(format!(in alloc; "put {o} {s}\n")?.as_bytes());
         }
     }
@@ -39,13 +51,14 @@ fn feed_questions(alloc: Global, checker: &mut Checker<'_>) -> Result<(), AllocE
 
 // What a checker says of the tree with all questions, the line after them, and so many leaves.
 fn deep(alloc: Global, mill: &Mill, after: &str, leaves: u64) -> Result<Verdict, AllocError> {
+    let line = leaf(alloc)?;
     let mut checker = Checker::new(alloc, mill)?;
     checker.feed(b"slabfront 1\n");
     checker.feed(b"done\n");
     feed_questions(alloc, &mut checker)?;
     checker.feed(after.as_bytes());
     for _ in 0..leaves {
-        checker.feed(LEAF.as_bytes());
+        checker.feed(line.as_bytes());
     }
     Ok(checker.end())
 }
@@ -53,14 +66,15 @@ fn deep(alloc: Global, mill: &Mill, after: &str, leaves: u64) -> Result<Verdict,
 #[test]
 fn deep_trees(rt: HostRuntime) -> Result<(), Fail> {
     let mill = mill(rt.alloc())?;
-    let whole = deep(rt.alloc(), &mill, LEAF, QUESTIONS)?;
+    let line = leaf(rt.alloc())?;
+    let whole = deep(rt.alloc(), &mill, &line, QUESTIONS)?;
     assert!(rt; matches!(whole, Verdict::NoPlan));
-    let short = deep(rt.alloc(), &mill, LEAF, QUESTIONS - 1)?;
+    let short = deep(rt.alloc(), &mill, &line, QUESTIONS - 1)?;
     assert!(rt;
         matches!(
             short,
             Verdict::No {
-                line: 57,
+                line: 82_253,
                 why: LineWhy::End
             }
         )
@@ -70,7 +84,7 @@ fn deep_trees(rt: HostRuntime) -> Result<(), Fail> {
         matches!(
             again,
             Verdict::No {
-                line: 30,
+                line: 41_128,
                 why: LineWhy::Repeat
             }
         )
