@@ -134,11 +134,13 @@ impl Tree {
     {
         let _orders = mill.orders();
         let limits = self.limits();
-        let found = guide.begin(alloc, mill, self.best.as_ref(), limits)?;
-        if let Some(plan) = found {
-            self.lower(mill, plan);
+        match guide.begin(alloc, mill, self.best.as_ref(), limits)? {
+            Some(plan) => {
+                self.lower(mill, plan);
+                Ok(())
+            }
+            None => Ok(()),
         }
-        Ok(())
     }
 
     // Takes one turn at the next node. It answers whether the run goes on.
