@@ -1,6 +1,6 @@
 #!/bin/bash
 # Times the questions of each mill of bench/data from outside, by the processor time that bench_questions takes: a line for each
-# mill, with its questions, nodes, the splits of its tightened trees, bare splits, pivots and overflows.
+# mill, with its questions, nodes, the splits of its tightened trees, bare splits, turns, solves, pivots and overflows.
 # Usage: bench/time_questions.sh        (builds crates/bench_questions first)
 set -eu
 cd "$(dirname "$0")/../crates/bench_questions"
@@ -9,7 +9,7 @@ program="$PWD/out/bench_questions"
 data="$PWD/../../bench/data"
 said=$(mktemp)
 TIMEFORMAT=%U
-printf '%-14s %9s %7s %7s %5s %8s %6s %8s  %s\n' mill questions nodes splits bare pivots wides seconds front
+printf '%-14s %9s %7s %7s %5s %7s %7s %8s %6s %8s  %s\n' mill questions nodes splits bare turns solves pivots wides seconds front
 for orders in "$data"/*.ord "$data"/csplib111.txt; do
     name=$(basename "${orders%.*}")
     yard=-
@@ -18,8 +18,8 @@ for orders in "$data"/*.ord "$data"/csplib111.txt; do
     awk -v name="$name" -v seconds="$seconds" '
         $3 == "least" { front = front "(" $4 ", " $5 ") " }
         $1 == "limit" { questions++; for (i = 3; i < NF; i++) if ($i == "splits") splits += $(i + 1); ended = $3 }
-        $1 == "nodes" { nodes = $2; bare = $4; wides = $6; pivots = $10 }
-        END { printf "%-14s %9d %7d %7d %5d %8d %6d %8s  %s%s\n", name, questions, nodes, splits, bare, pivots, wides, seconds, front, ended }
+        $1 == "nodes" { nodes = $2; bare = $4; turns = $6; solves = $8; wides = $10; pivots = $14 }
+        END { printf "%-14s %9d %7d %7d %5d %7d %7d %8d %6d %8s  %s%s\n", name, questions, nodes, splits, bare, turns, solves, pivots, wides, seconds, front, ended }
     ' "$said"
 done
 rm -f "$said"

@@ -46,7 +46,7 @@ pub fn ask_all<R: AllocGlobal + Print>(rt: &R, mill: &Mill, limit: u64) -> io::R
             Answer::NoPlan(_) | Answer::Budget => break 'questions,
         }
     }
-    print_counts(rt, &nodes, &tally)
+    print_counts(rt, &nodes, &pool, &tally)
 }
 
 // One question, with the first-fit plan within its count limit as the best one so far.
@@ -109,11 +109,13 @@ fn print_answer<R: Print>(
     }
 }
 
-fn print_counts<R: Print>(rt: &R, nodes: &Nodes, tally: &Tally) -> io::Result<()> {
+fn print_counts<R: Print>(rt: &R, nodes: &Nodes, pool: &Pool, tally: &Tally) -> io::Result<()> {
     println!(rt;
-        "nodes {} bare {} wides {} stalls {} pivots {} fulls {}",
+        "nodes {} bare {} turns {} solves {} wides {} stalls {} pivots {} fulls {}",
         nodes.opened(),
         nodes.bare(),
+        pool.turns(),
+        tally.stalls.solves(),
         tally.wides.count(),
         tally.stalls.count(),
         tally.stalls.pivots(),

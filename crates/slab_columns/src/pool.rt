@@ -10,6 +10,7 @@ use crate::mill_copy::copy_of;
 use crate::{AddError, Basics, ColId, Column, Fulls, Start};
 use indexmap::IndexMap;
 use mill_model::{Kind, Mill};
+use slab_counter::raised;
 use std::alloc::{AllocError, Global};
 use std::marker::Model;
 
@@ -17,7 +18,7 @@ use std::marker::Model;
 const MOST_COLUMNS: usize = 8192;
 
 /// Columns that are legal for a mill and distinct, in the order in which they came: at most 8,192. All orders stand in one
-/// vector. Beside what contracts see, a pool remembers which of its columns were basic last.
+/// vector. Beside what contracts see, a pool remembers which of its columns were basic last, and counts the turns of its search.
 #[derive(Drop)]
 pub struct Pool {
     mill: Mill,
@@ -25,6 +26,7 @@ pub struct Pool {
     starts: Vec<Start>,
     index: Index,
     basics: Basics,
+    turns: u64,
 }
 
 impl Model for Pool {
@@ -54,6 +56,7 @@ impl Pool {
             starts: Vec::new(alloc),
             index: IndexMap::new(alloc),
             basics: Basics::new(alloc),
+            turns: 0,
         })
     }
 
@@ -162,7 +165,7 @@ impl Pool {
         Ok(ColId(id as u16))
     }
 
-    /// Empties the pool. It stays one for the same mill.
+    /// Empties the pool. It stays one for the same mill, and its count of turns stays.
     pub fn restart(&mut self)
         ensures { self.new ≡ record self.old { columns = [] } }
     {
@@ -178,6 +181,18 @@ impl Pool {
         ensures { self.new ≡ self.old }
     {
         self.basics.note(ids);
+    }
+
+    /// Counts one more turn of the search that the pool serves. The count stands still at 2^64 - 1.
+    pub fn count_turn(&mut self)
+        ensures { self.new ≡ self.old }
+    {
+        self.turns = raised(self.turns);
+    }
+
+    /// How many turns were counted.
+    pub fn turns(&self) -> u64 {
+        self.turns
     }
 
     /// The columns that were basic, the latest first.

@@ -120,6 +120,7 @@ impl Master {
             goal,
             likely: &self.likely,
         };
+        stalls.add_solve();
         let ended = solve_over(
             alloc,
             &problem,

@@ -6,11 +6,12 @@ use slab_counter::raised;
 use std::marker::Model;
 
 /// How many solves gave up, and how many pivots were made. Each count stands still at 2^64 - 1, and only this crate
-/// raises them.
+/// raises them. Beside what contracts see, it counts the solves that were begun.
 #[derive(Drop)]
 pub struct Stalls {
     stalls: u64,
     pivots: u64,
+    solves: u64,
 }
 
 impl Model for Stalls {
@@ -29,6 +30,7 @@ impl Stalls {
         Stalls {
             stalls: 0,
             pivots: 0,
+            solves: 0,
         }
     }
 
@@ -44,6 +46,18 @@ impl Stalls {
         ensures { result ≡ self.now.pivots }
     {
         self.pivots
+    }
+
+    /// How many solves were begun.
+    pub fn solves(&self) -> u64 {
+        self.solves
+    }
+
+    // Counts one more solve.
+    pub(crate) fn add_solve(&mut self)
+        ensures { self.new ≡ self.old }
+    {
+        self.solves = raised(self.solves);
     }
 
     // Counts one more pivot.

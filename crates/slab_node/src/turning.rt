@@ -74,7 +74,7 @@ fn turn_open(
 /// One node's turn. It answers prices that refute the limits under the decisions, a plan within them, or a fractional cover,
 /// which shows that no prices refute them, with an ask to split on. Where a counter of the tally rose or stands at its last
 /// value, neither prices nor a cover may come. The pool may hold any columns of the mill; columns join it, and one of more
-/// than 4,096 columns is emptied before the relaxation.
+/// than 4,096 columns is emptied before the relaxation. The pool counts the turn.
 ///
 /// The only error is want of memory: the pool may have changed as above, and the counters may have risen.
 pub fn turn(
@@ -128,6 +128,7 @@ pub fn turn(
         decisions,
         limits,
     };
+    pool.count_turn();
     if let Some(prices) = plain_prices(alloc, mill, limits)? {
         return Ok(Turned::Refuted(prices));
     }

@@ -12,13 +12,6 @@ pub record IsFoundPlan (m : Mill) (limits : Limits) (p : Plan) : Type 0 where
   pub order : IsInOrder p
   pub within : IsWithin (sums_of m p) limits
 
--- legal, in order, with no more loss than another plan and fewer new slabs
-pub record IsPolished (m : Mill) (p q : Plan) : Type 0 where
-  pub legal : IsLegal m q
-  pub order : IsInOrder q
-  pub loss : (sums_of m q).loss ≤ (sums_of m p).loss
-  pub fewer : (sums_of m q).count < (sums_of m p).count
-
 -- the numbers below another have first places that rise
 abbrev pub AreNumberedBelow : List ℕ → ℕ → Type 0
 AreNumberedBelow place slabs = (k : ℕ) → suc k < slabs → position_or_len (λ x. eqb x k) place < position_or_len (λ x. eqb x (suc k)) place

@@ -1,7 +1,7 @@
 //! The search.
 
 ghost use Rattle.std.specs.Prelude.{◌≡◌, IfOk, IfSome};
-ghost use Rattle.slab_repack.specs.FoundPlans.{IsFoundPlan, IsPolished};
+ghost use Rattle.slab_repack.specs.FoundPlans.{IsFoundPlan};
 
 use crate::facts::Facts;
 use crate::judging::judged;
@@ -107,27 +107,6 @@ impl Repack {
         }
         let plan = self.best.plan(alloc, &self.facts)?;
         Ok(judged(mill, plan, limits))
-    }
-
-    /// Searches for a plan of no more loss than this one, with fewer new slabs. Its only error is want of memory.
-    pub fn polish(
-        &mut self,
-        alloc: Global,
-        mill: &Mill,
-        plan: &Plan,
-        work: u64,
-    ) -> Result<Option<Plan>, AllocError>
-        ensures found { IfOk result (λ found. IfSome found (IsPolished mill.now plan.now)) }
-    {
-        let Ok(sums) = plan.judge(mill) else {
-            return Ok(None);
-        };
-        let limits = Limits {
-            loss: Some(i64::from(sums.loss)),
-            count: Some(i64::from(sums.count) - 1),
-        };
-        self.seed(plan);
-        self.search(alloc, mill, limits, sums.loss, work)
     }
 
     // What a search is after, unless no plan is within the limits.

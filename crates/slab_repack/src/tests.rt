@@ -71,17 +71,3 @@ fn takes_columns(rt: HostRuntime) -> Result<(), Fail> {
     assert_eq!(rt; least(&mut repack, alloc, &mill, 2)?, Some((0, 2)));
     Ok(())
 }
-
-#[test]
-fn polishes_plans(rt: HostRuntime) -> Result<(), Fail> {
-    let alloc = rt.alloc();
-    let mill = small_mill(alloc)?;
-    let table = LossTable::new(alloc, &mill)?;
-    let mut repack = Repack::new(alloc, &mill, &table)?;
-    let plan = plan_of_three(alloc)?;
-    match repack.polish(alloc, &mill, &plan, 1000)? {
-        Some(polished) => assert_eq!(rt; sums_of(&mill, &polished), Some((0, 2))),
-        None => assert!(rt; false),
-    }
-    Ok(())
-}

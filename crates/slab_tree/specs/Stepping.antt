@@ -7,6 +7,7 @@ use Rattle.mill_model.specs.Plans.{Plan, sums_of}
 use Rattle.mill_model.specs.Limits.{AtMost}
 use Rattle.mill_model.specs.Decisions.{Decision}
 use Rattle.mill_model.specs.Paths.{next_branch}
+use Rattle.mill_model.specs.Plain.{IsPlainlyRefuted}
 use Rattle.mill_model.specs.Prices.{Prices}
 use Rattle.slab_columns.specs.Pool.{Pool}
 use Rattle.slab_decide.specs.Decided.{Decisions}
@@ -80,6 +81,15 @@ pub record IsLater (m : Mill) (old new : Search) : Type 0 where
   pub opening : new.opening ≡ old.opening
   pub loss : AtMost new.loss old.loss
   pub best : (new.best ≡ old.best) ⊎ IsSomeAnd new.best (λ p. AtMost (Some (pos (sums_of m p).loss)) old.loss)
+
+-- a better plan may have been taken, and nothing else was
+pub record HasBegun (m : Mill) (old new : Search) : Type 0 where
+  pub running : IsRunning m new
+  pub later : IsLater m old new
+  pub path : new.path ≡ old.path
+  pub nodes : new.nodes ≡ old.nodes
+  pub opened : new.opened ≡ old.opened
+  pub plain : IsPlainlyRefuted m (limits_of old) → new ≡ old
 
 pub record GoesOnFrom (m : Mill) (limit : ℕ) (old new : Search) : Type 0 where
   pub running : IsRunning m new

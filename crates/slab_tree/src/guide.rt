@@ -96,7 +96,7 @@ impl Guide {
         self.questions.choose(pool, cover, decisions, first)
     }
 
-    // A plan within the limits that is near the best one, sought before the first turn, or none: also at any later turn.
+    // A plan within the limits that is near the best one, sought before the first turn, or none.
     pub(crate) fn begin(
         &mut self,
         alloc: Global,

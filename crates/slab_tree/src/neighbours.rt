@@ -31,7 +31,6 @@ const MOST_STEPS: u64 = 250_000;
 #[derive(Drop)]
 pub(crate) struct Neighbours {
     repack: Repack,
-    has_begun: bool,
 }
 
 impl Neighbours {
@@ -42,11 +41,10 @@ impl Neighbours {
     ) -> Result<Neighbours, AllocError> {
         Ok(Neighbours {
             repack: Repack::new(alloc, mill, table)?,
-            has_begun: false,
         })
     }
 
-    // A plan within the limits that is near the best one, sought before the first turn, or none: also at any later turn.
+    // A plan within the limits that is near the best one, sought before the first turn, or none.
     pub(crate) fn begin(
         &mut self,
         alloc: Global,
@@ -56,10 +54,6 @@ impl Neighbours {
     ) -> Result<Option<Plan>, AllocError>
         ensures { IfOk result (λ found. IfSome found (IsFoundPlan mill.now limits)) }
     {
-        if self.has_begun {
-            return Ok(None);
-        }
-        self.has_begun = true;
         match best {
             Some(plan) => self.repack.seed(plan),
             None => self.repack.clear(),

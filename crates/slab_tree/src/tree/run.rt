@@ -14,7 +14,7 @@ ghost use Rattle.slab_repack.specs.FoundPlans.{IsFoundPlan};
 ghost use Rattle.slab_tree.specs.Marking.{is_bare};
 ghost use Rattle.slab_tree.specs.Standing.{IsOpenPath};
 ghost use Rattle.slab_tree.specs.Searches.{HasBareEnd, IsReady, IsRunning, IsEnded, IsAnswer, IsSameQuestion, AreRaisedBy, limits_of, bare_count};
-ghost use Rattle.slab_tree.specs.Stepping.{IsClosed, IsClosedAtOnce, IsLater, IsSplitUnder, IsStepped, IsWorkplace};
+ghost use Rattle.slab_tree.specs.Stepping.{HasBegun, IsClosed, IsClosedAtOnce, IsLater, IsSplitUnder, IsStepped, IsWorkplace};
 
 use super::{Ended, Tree};
 use crate::Nodes;
@@ -108,6 +108,7 @@ impl Tree {
         let yard = mill.yard().len() as u16;
         let mut guide = Guide::new(alloc, mill, table, orders, yard)?;
         let mut decisions = Decisions::new(alloc, orders, yard)?;
+        self.begin(alloc, mill, &mut guide)?;
         self.tell(&mut decisions);
         'nodes: loop {
             if !self.step(
@@ -125,60 +126,25 @@ impl Tree {
         }
     }
 
-    // Takes a plan that is found before the first turn, or else one turn at the next node. It answers whether the run goes on.
-    fn step(
-        &mut self,
-        alloc: Global,
-        mill: &Mill,
-        table: &LossTable,
-        decisions: &mut Decisions,
-        guide: &mut Guide,
-        pool: &mut Pool,
-        nodes: &mut Nodes,
-        tally: &mut Tally,
-    ) -> Result<bool, AllocError>
-        requires tree { IsRunning mill.now self.old }
-        requires room { self.old.opened ≤ nodes.old.limit }
-        requires place { IsWorkplace mill.now table.now pool.old decisions.old self.old.path }
-        requires extent { guide.old ≡ extent_of decisions.old }
-        ensures ok { IfOk result (IsStepped mill.now nodes.old.limit self.old self.new) }
-        ensures err { OnErr result (self.new ≡ self.old) }
-        ensures plain { IsPlainlyRefuted mill.now (limits_of self.old) → self.old.path ≡ [] → IfOk result (IsClosedAtOnce self.old self.new) }
-        ensures place { IfOk result (λ on. on ≡ true → IsWorkplace mill.now table.now pool.new decisions.new self.new.path) }
-        ensures extent { IfOk result (λ on. on ≡ true → guide.new ≡ extent_of decisions.new) }
-        ensures mill { pool.new.mill ≡ mill.now }
-        ensures counters { AreNoLess tally.old tally.new }
-        ensures causes { HaveCauses (bare_count self.old.nodes) tally.old (bare_count self.new.nodes) tally.new }
-        ensures bare_end { HasBareEnd self.new → HasCause tally.old tally.new }
-        ensures counts { AreRaisedBy nodes.old nodes.new self.old self.new }
+    // Takes a plan within the limits that a search finds near the best one, before the first turn.
+    fn begin(&mut self, alloc: Global, mill: &Mill, guide: &mut Guide) -> Result<(), AllocError>
+        requires { IsRunning mill.now self.old }
+        ensures begun { HasBegun mill.now self.old self.new }
+        ensures extent { guide.new ≡ guide.old }
     {
-        let _counted = nodes.opened();
         let _orders = mill.orders();
-        match self.first_plan(alloc, mill, guide)? {
+        let limits = self.limits();
+        match guide.begin(alloc, mill, self.best.as_ref(), limits)? {
             Some(plan) => {
                 self.lower(mill, plan);
-                Ok(true)
+                Ok(())
             }
-            None => self.take_turn(alloc, mill, table, decisions, guide, pool, nodes, tally),
+            None => Ok(()),
         }
     }
 
-    // A plan within the limits that is near the best one, sought before the first turn of a run, or none: also at a later turn.
-    fn first_plan(
-        &self,
-        alloc: Global,
-        mill: &Mill,
-        guide: &mut Guide,
-    ) -> Result<Option<Plan>, AllocError>
-        ensures found { IfOk result (λ found. IfSome found (IsFoundPlan mill.now (limits_of self.now))) }
-        ensures extent { guide.new ≡ guide.old }
-    {
-        let limits = self.limits();
-        guide.begin(alloc, mill, self.best.as_ref(), limits)
-    }
-
     // Takes one turn at the next node. It answers whether the run goes on.
-    fn take_turn(
+    fn step(
         &mut self,
         alloc: Global,
         mill: &Mill,

@@ -49,7 +49,7 @@ returns-in_err-decisions-clause-few c = few_running c.args.mill.now c.args.self.
 pub tell-requires : goal.tell-requires
 tell-requires c =
     rw (ap (λ d. d.orders) c.in_ok-decisions.ensures, ap (λ d. d.yard) c.in_ok-decisions.ensures, c.orders.ensures.value, c.yard.ensures.value)
-    (path_open c.args.mill.now (HoldsCover c.args.mill.now (opening_of c.args.self.now)) (limits_of c.args.self.now) c.args.self.now.path c.args.self.now.nodes c.requires.tree.stands)
+    (path_open c.args.mill.now (HoldsCover c.args.mill.now (opening_of c.begin.new.self)) (limits_of c.begin.new.self) c.begin.new.self.path c.begin.new.self.nodes c.begin.ensures.begun.running.stands)
 
 -- ---- the loop
 
