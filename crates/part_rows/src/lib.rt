@@ -3,4 +3,20 @@
 #![tactic(auto)]
 
 #[cfg(test)]
+mod decided;
+#[cfg(test)]
+mod deciding;
+#[cfg(test)]
 mod fractions;
+#[cfg(test)]
+mod masters;
+#[cfg(test)]
+mod mills;
+#[cfg(test)]
+mod pools;
+#[cfg(test)]
+mod pricing;
+#[cfg(test)]
+mod repacking;
+#[cfg(test)]
+mod sizes;

@@ -1,12 +1,13 @@
+//! A pool of two columns.
 ghost use Rattle.std.specs.Prelude.{◌≡◌, [], ◌∷◌, IfOk};
 ghost use Rattle.mill_model.specs.Columns.{IsLegalColumn, column_of};
 
-use crate::{AddError, ColId, Fulls, Pool};
 use mill_model::{Kind, Mill, Order};
+use slab_columns::{AddError, ColId, Fulls, Pool};
 use std::alloc::{AllocError, Global};
 use std::test::Fail;
 
-/// A mill that casts slabs of 4 and of 10, with two orders of weight 4 and one colour.
+// A mill that casts slabs of 4 and of 10, with two orders of weight 4 and one colour.
 fn mill_of_two_orders(alloc: Global) -> Result<Mill, AllocError>
     ensures { IfOk result (λ mill. mill ≡ record { sizes = 4 ∷ 10 ∷ []; colours = 1; colour_limit = 2; orders = record { weight = 4; colour = 1 } ∷ record { weight = 4; colour = 1 } ∷ []; yard = []; bars = [] }) }
 {
@@ -19,8 +20,8 @@ fn mill_of_two_orders(alloc: Global) -> Result<Mill, AllocError>
     Ok(Mill::new(sizes, 1, orders))
 }
 
-/// The numbers of three columns, of which the first two are the same, and how many columns there are after these two. The third
-/// is noted as basic twice, after the first.
+// The numbers of three columns, of which the first two are the same, and how many columns there are after these two. The third
+// is noted as basic twice, after the first.
 fn add_three(
     alloc: Global,
     pool: &mut Pool,
@@ -40,7 +41,7 @@ fn add_three(
     Ok(([first, again, other], length))
 }
 
-/// Whether the pool finds this column and lends it.
+// Whether the pool finds this column and lends it.
 fn has(pool: &Pool, kind: Kind, orders: &[u16]) -> bool {
     match pool.find(kind, orders) {
         Some(id) => {

@@ -1,5 +1,5 @@
-use Rattle.slab_columns.proofs.Legal.{both_are_legal, second_is_legal}
-use Rattle.slab_columns.proofs.tests.columns_keep_their_numbers.Goals as goal
+use Rattle.part_rows.proofs.LegalColumns.{both_are_legal, second_is_legal}
+use Rattle.part_rows.proofs.pools.columns_keep_their_numbers.Goals as goal
 
 pub add_three-requires : goal.add_three-requires
 add_three-requires g c = record {
