@@ -25,6 +25,4 @@ mod sizes;
 #[cfg(test)]
 mod starting;
 #[cfg(test)]
-mod sweeping;
-#[cfg(test)]
 mod turns;
