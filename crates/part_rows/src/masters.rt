@@ -115,19 +115,24 @@ fn entries_of(alloc: Global, lines: &[Line], column: usize) -> Result<Vec<(u16, 
     Ok(entries)
 }
 
-// A master of these lines, with so many columns.
-fn lined(alloc: Global, lines: &[Line], columns: usize) -> Result<Master, Fail> {
+fn rows_of(alloc: Global, lines: &[Line]) -> Result<Vec<Row>, AllocError> {
     let mut rows = Vec::new(alloc);
     for line in lines {
         rows.push((line.0, line.1))?;
     }
-    let mut master = master_of(alloc, &rows, &[])?;
+    Ok(rows)
+}
+
+// A master of these rows, with so many columns of these lines.
+fn lined(alloc: Global, rows: &[Row], lines: &[Line], columns: usize) -> Result<Master, Fail> {
+    let mut master = master_of(alloc, rows, &[])?;
     for column in 0..columns {
-        let entries = entries_of(alloc, lines, column)?;
-        if !is_column(&entries, rows.len()) {
+        let list = entries_of(alloc, lines, column)?;
+        let entries = list.as_slice();
+        if !is_column(entries, rows.len()) {
             return Err(Fail::from("column"));
         }
-        master.add_column(alloc, &entries)?;
+        master.add_column(alloc, entries)?;
     }
     Ok(master)
 }
@@ -221,7 +226,8 @@ fn holds(alloc: Global, master: &mut Master, wanted: Option<&[(i64, i64)]>) -> R
 #[test]
 fn rows_are_met_or_refuted(rt: HostRuntime) -> Result<(), Fail> {
     for (index, (lines, columns, wanted)) in cases().iter().enumerate() {
-        let mut master = lined(rt.alloc(), lines, *columns)?;
+        let rows = rows_of(rt.alloc(), lines)?;
+        let mut master = lined(rt.alloc(), &rows, lines, *columns)?;
         assert!(rt; holds(rt.alloc(), &mut master, *wanted)?, "{index}");
     }
     Ok(())
