@@ -9,6 +9,8 @@ mod deciding;
 #[cfg(test)]
 mod fractions;
 #[cfg(test)]
+mod leaves;
+#[cfg(test)]
 mod masters;
 #[cfg(test)]
 mod mills;
@@ -20,3 +22,7 @@ mod pricing;
 mod repacking;
 #[cfg(test)]
 mod sizes;
+#[cfg(test)]
+mod starting;
+#[cfg(test)]
+mod turns;

@@ -5,7 +5,7 @@ ghost use Rattle.slab_master.specs.Least.{AreCosts};
 
 use slab_frac::{Frac, Wides};
 use slab_master::{FracList, Least, Master, Outcome, Sense, Stalls};
-use std::alloc::Global;
+use std::alloc::{AllocError, Global};
 use std::test::Fail;
 
 // The largest absolute value of a right side or an entry.
@@ -13,7 +13,7 @@ const SMALL: u64 = 0x100_0000_0000;
 
 type Row = (Sense, i64);
 
-type Column = &'static [(u16, i64)];
+type Column<'a> = &'a [(u16, i64)];
 
 fn are_rows(rows: &[Row]) -> bool
     ensures { IsTrue result → AreRows rows.now }
@@ -51,7 +51,7 @@ fn are_costs(costs: &[i64]) -> bool
 }
 
 // A master of these rows and columns.
-fn master_of(alloc: Global, rows: &[Row], columns: &[Column]) -> Result<Master, Fail>
+fn master_of(alloc: Global, rows: &[Row], columns: &[Column<'_>]) -> Result<Master, Fail>
     ensures rows { IfOk result (λ m. m.rows ≡ rows.now) }
     ensures columns { IfOk result (λ m. length m.columns ≡ length columns.now) }
 {
@@ -68,9 +68,6 @@ fn master_of(alloc: Global, rows: &[Row], columns: &[Column]) -> Result<Master, 
     Ok(master)
 }
 
-// Numerators and denominators; none where prices refute the rows.
-type Answer = Option<&'static [(i64, i64)]>;
-
 fn are(list: &FracList, wanted: &[(i64, i64)]) -> bool {
     let list = list.list();
     if list.len() != wanted.len() {
@@ -84,7 +81,7 @@ fn are(list: &FracList, wanted: &[(i64, i64)]) -> bool {
     true
 }
 
-fn is_met(outcome: &Outcome, wanted: Answer) -> bool {
+fn is_met(outcome: &Outcome, wanted: Option<&[(i64, i64)]>) -> bool {
     match (outcome, wanted) {
         (Outcome::Spread(spread), Some(wanted)) => are(spread, wanted),
         (Outcome::Prices(_), None) => true,
@@ -103,86 +100,144 @@ const EQUAL: Sense = Sense::Equal;
 
 const AT_MOST: Sense = Sense::AtMost;
 
-// The rows, the columns, and the only spread.
-type Case = (&'static [Row], &'static [Column], Answer);
+// A row with a number for each of three columns.
+type Line = (Sense, i64, [i64; 3]);
 
-fn cases() -> [Case; 9] {
+// The entries of a column, which are few.
+fn entries_of(alloc: Global, lines: &[Line], column: usize) -> Result<Vec<(u16, i64)>, AllocError> {
+    let mut entries = Vec::new(alloc);
+    for (row, line) in lines.iter().enumerate() {
+        let number = line.2.get(column).copied().unwrap_or(0);
+        if number != 0 {
+            entries.push((u16::try_from(row).unwrap_or(u16::MAX), number))?;
+        }
+    }
+    Ok(entries)
+}
+
+// A master of these lines, with so many columns.
+fn lined(alloc: Global, lines: &[Line], columns: usize) -> Result<Master, Fail> {
+    let mut rows = Vec::new(alloc);
+    for line in lines {
+        rows.push((line.0, line.1))?;
+    }
+    let mut master = master_of(alloc, &rows, &[])?;
+    for column in 0..columns {
+        let entries = entries_of(alloc, lines, column)?;
+        if !is_column(&entries, rows.len()) {
+            return Err(Fail::from("column"));
+        }
+        master.add_column(alloc, &entries)?;
+    }
+    Ok(master)
+}
+
+// The lines, how many columns there are, and the only spread; none where prices refute the rows.
+type Case = (&'static [Line], usize, Option<&'static [(i64, i64)]>);
+
+fn cases() -> [Case; 8] {
     [
-        // two orders, each on its own slab or both on a third column's, with at most one slab
+        // two orders, each on its own slab, with at most one slab
         (
-            &[(EQUAL, 1), (EQUAL, 1), (AT_MOST, 1)],
-            &[&[(0, 1), (2, 1)], &[(1, 1), (2, 1)]],
+            &[
+                (EQUAL, 1, [1, 0, 0]),
+                (EQUAL, 1, [0, 1, 0]),
+                (AT_MOST, 1, [1, 1, 0]),
+            ],
+            2,
             None,
         ),
+        // or both on one
         (
-            &[(EQUAL, 1), (EQUAL, 1), (AT_MOST, 1)],
             &[
-                &[(0, 1), (2, 1)],
-                &[(1, 1), (2, 1)],
-                &[(0, 1), (1, 1), (2, 1)],
+                (EQUAL, 1, [1, 0, 1]),
+                (EQUAL, 1, [0, 1, 1]),
+                (AT_MOST, 1, [1, 1, 1]),
             ],
+            3,
             Some(&[(0, 1), (0, 1), (1, 1)]),
         ),
-        // 2x + 3y = 1 and 4x - y = 1
         (
-            &[(EQUAL, 1), (EQUAL, 1)],
-            &[&[(0, 2), (1, 4)], &[(0, 3), (1, -1)]],
+            &[(EQUAL, 1, [2, 3, 0]), (EQUAL, 1, [4, -1, 0])],
+            2,
             Some(&[(2, 7), (1, 7)]),
         ),
-        // x at least 2 and at most 3, with 2x = 5
+        // at least 2 and at most 3, with half of 5
         (
-            &[(AT_MOST, -2), (AT_MOST, 3), (EQUAL, -5)],
-            &[&[(0, -1), (1, 1), (2, -2)]],
+            &[
+                (AT_MOST, -2, [-1, 0, 0]),
+                (AT_MOST, 3, [1, 0, 0]),
+                (EQUAL, -5, [-2, 0, 0]),
+            ],
+            1,
             Some(&[(5, 2)]),
         ),
-        // x at least 2 and at most 1
-        (&[(AT_MOST, -2), (AT_MOST, 1)], &[&[(0, -1), (1, 1)]], None),
+        // at least 2 and at most 1
+        (
+            &[(AT_MOST, -2, [-1, 0, 0]), (AT_MOST, 1, [1, 0, 0])],
+            1,
+            None,
+        ),
         // three orders in pairs
         (
-            &[(EQUAL, 1), (EQUAL, 1), (EQUAL, 1)],
-            &[&[(0, 1), (1, 1)], &[(1, 1), (2, 1)], &[(0, 1), (2, 1)]],
+            &[
+                (EQUAL, 1, [1, 0, 1]),
+                (EQUAL, 1, [1, 1, 0]),
+                (EQUAL, 1, [0, 1, 1]),
+            ],
+            3,
             Some(&[(1, 2), (1, 2), (1, 2)]),
         ),
-        // the entries of one row are summed
-        (&[(EQUAL, 6)], &[&[(0, 1), (0, 2)]], Some(&[(2, 1)])),
         // nothing at all meets both rows; a pivot would leave the range
         (
-            &[(EQUAL, 0), (AT_MOST, 1)],
             &[
-                &[(0, 743969299926)],
-                &[(0, 856612399355), (1, -524027112809)],
+                (EQUAL, 0, [743969299926, 856612399355, 0]),
+                (AT_MOST, 1, [0, -524027112809, 0]),
             ],
+            2,
             Some(&[(0, 1), (0, 1)]),
         ),
         // rows that say the same
         (
-            &[(EQUAL, 2), (EQUAL, 4), (EQUAL, 0)],
-            &[&[(0, 1), (1, 2)], &[(2, 3)]],
+            &[
+                (EQUAL, 2, [1, 0, 0]),
+                (EQUAL, 4, [2, 0, 0]),
+                (EQUAL, 0, [0, 3, 0]),
+            ],
+            2,
             Some(&[(2, 1), (0, 1)]),
         ),
     ]
 }
 
-fn holds(alloc: Global, case: Case) -> Result<bool, Fail> {
-    let (rows, columns, answer) = case;
-    let mut master = master_of(alloc, rows, columns)?;
+fn holds(alloc: Global, master: &mut Master, wanted: Option<&[(i64, i64)]>) -> Result<bool, Fail>
+    ensures { OnOk result (master.new ≡ master.old) }
+{
     let mut stalls = Stalls::new();
     let outcome = master.solve(alloc, &mut Wides::new(), &mut stalls)?;
-    Ok(stalls.count() == 0 && is_met(&outcome, answer))
+    Ok(stalls.count() == 0 && is_met(&outcome, wanted))
 }
 
 #[test]
 fn rows_are_met_or_refuted(rt: HostRuntime) -> Result<(), Fail> {
-    for (index, case) in cases().iter().enumerate() {
-        assert!(rt; holds(rt.alloc(), *case)?, "{index}");
+    for (index, (lines, columns, wanted)) in cases().iter().enumerate() {
+        let mut master = lined(rt.alloc(), lines, *columns)?;
+        assert!(rt; holds(rt.alloc(), &mut master, *wanted)?, "{index}");
     }
+    Ok(())
+}
+
+#[test]
+fn entries_of_one_row_are_summed(rt: HostRuntime) -> Result<(), Fail> {
+    let mut master = master_of(rt.alloc(), &[(EQUAL, 6)], &[&[(0, 1), (0, 2)]])?;
+    assert!(rt; holds(rt.alloc(), &mut master, Some(&[(2, 1)]))?);
     Ok(())
 }
 
 const TWO_ORDERS: [Row; 3] = [(EQUAL, 1), (EQUAL, 1), (AT_MOST, 1)];
 
 // Both orders on the one slab.
-const BOTH: Column = &[(0, 1), (1, 1), (2, 1)];
+const BOTH: Column<'static> = &[(0, 1), (1, 1), (2, 1)];
 
 // A master goes on with a column that it was given after a solve.
 #[test]
@@ -200,26 +255,18 @@ fn a_column_is_added(rt: HostRuntime) -> Result<(), Fail> {
     Ok(())
 }
 
-// Whether a solve meets the two orders by the one slab.
-fn is_met_by_both(alloc: Global, master: &mut Master) -> Result<bool, Fail>
-    ensures { OnOk result (master.new ≡ master.old) }
-{
-    let outcome = master.solve(alloc, &mut Wides::new(), &mut Stalls::new())?;
-    Ok(is_met(&outcome, Some(&[(1, 1)])))
-}
-
 // Writing to a working row changes neither another row nor the next answer.
 #[test]
 fn a_working_row_is_lent(rt: HostRuntime) -> Result<(), Fail> {
     let alloc = rt.alloc();
     let mut master = master_of(alloc, &TWO_ORDERS, &[BOTH])?;
-    assert!(rt; is_met_by_both(alloc, &mut master)?);
+    assert!(rt; holds(alloc, &mut master, Some(&[(1, 1)]))?);
     let first = master.row_mut(0).to_vec(alloc)?;
     let second = master.row_mut(1);
     assert!(rt; !first.is_empty() && !second.is_empty());
     second.fill(Frac::whole(7));
-    assert!(rt; master.row_mut(0) == first.as_slice());
-    assert!(rt; is_met_by_both(alloc, &mut master)?);
+    assert!(rt; &*master.row_mut(0) == first.as_slice());
+    assert!(rt; holds(alloc, &mut master, Some(&[(1, 1)]))?);
     Ok(())
 }
 
@@ -227,7 +274,7 @@ fn a_working_row_is_lent(rt: HostRuntime) -> Result<(), Fail> {
 fn two_orders(alloc: Global) -> Result<Master, Fail>
     ensures { IfOk result (λ m. length m.columns ≡ 3) }
 {
-    let columns: [Column; 3] = [&[(0, 1)], &[(1, 1)], &[(0, 1), (1, 1)]];
+    let columns: [Column<'_>; 3] = [&[(0, 1)], &[(1, 1)], &[(0, 1), (1, 1)]];
     let mut master = master_of(alloc, &[(EQUAL, 1), (EQUAL, 1)], &columns)?;
     master.hint(&[2]);
     Ok(master)

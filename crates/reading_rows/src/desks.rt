@@ -71,7 +71,7 @@ fn a_file_past_the_limit_is_long(rt: HostRuntime) -> Result<(), Fail> {
     assert!(rt; is_long(alloc, &mut desk, 3));
     let orders = read_all(alloc, &mut desk, "orders", 4)?;
     let yard = read_all(alloc, &mut desk, "yard", 0)?;
-    assert!(rt; orders.as_slice() == b"1 10" && yard.is_empty() && !desk.stopped());
+    assert!(rt; orders.as_slice() == b"1 10".as_slice() && yard.is_empty() && !desk.stopped());
     assert!(rt; matches!(read_all(alloc, &mut desk, "plan", 4), Err(ReadFail::Fault)));
     assert!(rt; desk.stopped() && desk.faults() == 1);
     assert!(rt; desk.calls(Act::OpenFile) == 4 && desk.calls(Act::Read) == 6);

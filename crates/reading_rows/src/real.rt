@@ -14,7 +14,7 @@ fn a_file_goes_out_and_comes_back(rt: HostRuntime) -> Result<(), Fail> {
     desk.create_file(NAME)?;
     write_all(&mut desk, b"1 10\n")?;
     let bytes = read_all(alloc, &mut desk, NAME, 5)?;
-    assert!(rt; bytes.as_slice() == b"1 10\n");
+    assert!(rt; bytes.as_slice() == b"1 10\n".as_slice());
     let long = read_all(alloc, &mut desk, NAME, 4);
     assert!(rt; matches!(long, Err(ReadFail::Long)));
     fs::remove_file(&rt, NAME)?;

@@ -88,7 +88,7 @@ fn the_summary_of_a_cut(rt: HostRuntime) -> Result<(), Fail> {
     let mut desk = desk_of(alloc)?;
     let head = head_of(alloc)?;
     say_summary(&mill_of(alloc)?, &head, 7, 1, Word::Budget, &mut desk)?;
-    assert!(rt; desk.said() == b"made 2 10\npoint 0 1\nnodes 7 bare 1\nbudget\n");
+    assert!(rt; desk.said() == b"made 2 10\npoint 0 1\nnodes 7 bare 1\nbudget\n".as_slice());
     Ok(())
 }
 
