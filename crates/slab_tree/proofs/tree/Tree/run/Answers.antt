@@ -67,14 +67,8 @@ nodes-init c = record {
   tree = c.in_ok-made.ensures.begun.running;
   room = c.in_ok-made.ensures.begun.room;
   later = c.in_ok-made.ensures.begun.later;
-  place = record {
-    sizes = c.requires.sizes;
-    pool = c.requires.pool;
-    orders = ap (λ d. d.orders) c.in_ok-made.ensures.told;
-    yard = ap (λ d. d.yard) c.in_ok-made.ensures.told;
-    list = ap (λ d. d.list) c.in_ok-made.ensures.told;
-  };
-  extent = c.in_ok-made.ensures.extent;
+  place = record { pool = c.requires.pool ∙ sym c.in_ok-made.ensures.mill; list = c.in_ok-made.ensures.told };
+  mill = c.in_ok-made.ensures.mill;
   limit = c.in_ok-made.ensures.begun.counts.limit;
   counts = c.in_ok-made.ensures.begun.counts;
   counters = no_less_same c.args.tally.now;
@@ -91,7 +85,7 @@ nodes-preserved c =
       room = w.0.room;
       later = later_trans c.args.mill.now c.args.self.now c.nodes.self c.step.new.self c.nodes.invariant.later w.1;
       place = c.in_ok-step.ensures.place c.if-not-branch.false;
-      extent = c.in_ok-step.ensures.extent c.if-not-branch.false;
+      mill = c.in_ok-step.ensures.mill ∙ c.nodes.invariant.mill;
       limit = c.in_ok-step.ensures.counts.limit ∙ c.nodes.invariant.limit;
       counts = raised_trans c.args.nodes.now c.nodes.nodes c.step.new.nodes c.args.self.now.opened c.nodes.self.opened c.step.new.self.opened (bare_count c.args.self.now.nodes) (bare_count c.nodes.self.nodes) (bare_count c.step.new.self.nodes) c.nodes.invariant.counts c.in_ok-step.ensures.counts;
       counters = no_less_trans c.args.tally.now c.nodes.tally c.step.new.tally c.nodes.invariant.counters c.in_ok-step.ensures.counters;
