@@ -43,7 +43,15 @@ pub(crate) fn bounded_turn(
 {
     for _ in 0..MOST_RAISES {
         let smaller = smaller_limits(limits, guide.aim());
-        match turn(alloc, place.mill, place.table, &place.decisions, smaller, pool, tally)? {
+        match turn(
+            alloc,
+            place.mill,
+            place.table,
+            &place.decisions,
+            smaller,
+            pool,
+            tally,
+        )? {
             Turned::Refuted(prices) => match left_by(place.mill, &prices, limits) {
                 None => return Ok(Turned::Refuted(prices)),
                 Some(left) => guide.raise(left),
@@ -51,7 +59,15 @@ pub(crate) fn bounded_turn(
             turned => return Ok(turned),
         }
     }
-    turn(alloc, place.mill, place.table, &place.decisions, limits, pool, tally)
+    turn(
+        alloc,
+        place.mill,
+        place.table,
+        &place.decisions,
+        limits,
+        pool,
+        tally,
+    )
 }
 
 // The limits with a loss limit that isn't above the aim.

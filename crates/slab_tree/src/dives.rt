@@ -44,7 +44,15 @@ pub(crate) fn dive(
     let mut trail = Trail::new(alloc, path)?;
     decide_columns(alloc, mill, &mut place.decisions, pool, cover, &mut trail)?;
     for _ in 0..MOST_TURNS {
-        match turn(alloc, mill, place.table, &place.decisions, limits, pool, tally)? {
+        match turn(
+            alloc,
+            mill,
+            place.table,
+            &place.decisions,
+            limits,
+            pool,
+            tally,
+        )? {
             Turned::InBox(plan) => return Ok(Some(plan)),
             Turned::Spread(cover, ask) => {
                 if !decide_columns(alloc, mill, &mut place.decisions, pool, &cover, &mut trail)? {

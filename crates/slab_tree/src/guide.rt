@@ -39,11 +39,7 @@ pub(crate) struct Guide {
 }
 
 impl Guide {
-    pub(crate) fn new(
-        alloc: Global,
-        mill: &Mill,
-        table: &LossTable,
-    ) -> Result<Guide, AllocError> {
+    pub(crate) fn new(alloc: Global, mill: &Mill, table: &LossTable) -> Result<Guide, AllocError> {
         Ok(Guide {
             questions: Questions::new(alloc, mill)?,
             neighbours: Neighbours::new(alloc, mill, table)?,
@@ -61,8 +57,7 @@ impl Guide {
     }
 
     // Prices leave no less loss to the next node.
-    pub(crate) fn raise(&mut self, aim: i64)
-    {
+    pub(crate) fn raise(&mut self, aim: i64) {
         self.aim = aim;
     }
 
@@ -113,8 +108,7 @@ impl Guide {
     }
 
     // The next node, whose decisions are the path, is split.
-    pub(crate) fn go_down(&mut self, path: &[(Ask, bool)]) -> Result<(), AllocError>
-    {
+    pub(crate) fn go_down(&mut self, path: &[(Ask, bool)]) -> Result<(), AllocError> {
         self.note(path, false);
         self.above.truncate(path.len());
         self.above.push(self.aim)?;
@@ -122,22 +116,19 @@ impl Guide {
     }
 
     // The next node, whose decisions are the path, is closed.
-    pub(crate) fn close(&mut self, path: &[(Ask, bool)])
-    {
+    pub(crate) fn close(&mut self, path: &[(Ask, bool)]) {
         self.note(path, true);
     }
 
     // A branch for no comes next, whose decisions are the path.
-    pub(crate) fn turn_back(&mut self, path: &[(Ask, bool)])
-    {
+    pub(crate) fn turn_back(&mut self, path: &[(Ask, bool)]) {
         self.above.truncate(path.len());
         self.aim = self.above.last().copied().unwrap_or(0);
     }
 
     // How many dives are due where so many nodes are decided: some at the first split, and one each time that the nodes have grown
     // by a quarter.
-    pub(crate) fn dives_due(&mut self, nodes: usize) -> u32
-    {
+    pub(crate) fn dives_due(&mut self, nodes: usize) -> u32 {
         if nodes < self.next_dive {
             return 0;
         }
@@ -165,14 +156,12 @@ impl Guide {
     }
 
     // Whether a cover of so many columns may be kept with its split, beside those that were.
-    pub(crate) fn keeps(&mut self, columns: usize) -> bool
-    {
+    pub(crate) fn keeps(&mut self, columns: usize) -> bool {
         self.shares = self.shares.saturating_add(columns);
         self.shares <= MOST_SHARES
     }
 
-    fn note(&mut self, path: &[(Ask, bool)], closed: bool)
-    {
+    fn note(&mut self, path: &[(Ask, bool)], closed: bool) {
         if let Some(decision) = path.last() {
             self.questions.note(*decision, closed);
         }

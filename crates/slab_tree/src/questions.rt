@@ -38,8 +38,7 @@ impl Questions {
     }
 
     // The branch of a decision was decided; whether it was closed at once.
-    pub(crate) fn note(&mut self, decision: (Ask, bool), closed: bool)
-    {
+    pub(crate) fn note(&mut self, decision: (Ask, bool), closed: bool) {
         let (ask, yes) = decision;
         let place = self.shares.place_of(ask);
         if let Some(records) = self.records.get_mut(place) {

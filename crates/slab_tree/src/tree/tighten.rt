@@ -179,7 +179,15 @@ impl Tree {
         ensures mill { pool.new.mill ≡ place.now.mill.now }
     {
         let limits = self.limits();
-        match turn(alloc, place.mill, place.table, &place.decisions, limits, pool, tally)? {
+        match turn(
+            alloc,
+            place.mill,
+            place.table,
+            &place.decisions,
+            limits,
+            pool,
+            tally,
+        )? {
             Turned::Refuted(prices) => Ok(Renewed::Leaf(prices)),
             Turned::Spread(cover, _) => {
                 let shown = mark_of(alloc, pool, &cover, tally)?;
