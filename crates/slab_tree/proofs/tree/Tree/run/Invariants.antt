@@ -2,8 +2,8 @@ use Rattle.std.proofs.Common.{◌≡◌, ◌≤◌, []}
 use Rattle.mill_model.specs.Plain.{IsPlainlyRefuted}
 use Rattle.slab_relax.specs.Tallies.{AreNoLess, HaveCauses}
 use Rattle.slab_tree.specs.Counts.{AreRaised}
-use Rattle.slab_tree.specs.Searches.{IsRunning, limits_of, bare_count}
-use Rattle.slab_tree.specs.Stepping.{IsAtRoot, IsLater, IsPlaceAt, rank}
+use Rattle.slab_tree.specs.Searches.{IsLater, IsRunning, limits_of, bare_count}
+use Rattle.slab_tree.specs.Stepping.{IsAtRoot, IsPlaceAt, rank}
 use Rattle.slab_tree.proofs.tree.Tree.run.Given as goal
 
 abbrev pub invariant-nodes : goal.invariant-nodes
