@@ -10,6 +10,7 @@ use Rattle.mill_model.specs.Paths.{next_branch}
 use Rattle.mill_model.specs.Plain.{IsPlainlyRefuted}
 use Rattle.mill_model.specs.Prices.{Prices}
 use Rattle.slab_columns.specs.Pool.{Pool}
+use Rattle.slab_decide.specs.Decided.{Decisions}
 use Rattle.slab_tree.specs.Counts.{Counts, AreRaised, raised_by}
 use Rattle.slab_tree.specs.declared.node.Node.TheVariants.{Closed, Branched}
 use Rattle.slab_tree.specs.declared.tree.Phase.{Phase}
@@ -52,6 +53,14 @@ IsFinish Running best old new e = Unit {0}
 IsFinish (Refused bare) best old new e = (e ≡ Budget) × (new ≡ old)
 IsFinish Done None old new e = (e ≡ NoPlan) × (new ≡ old)
 IsFinish Done (Some p) old new e = (e ≡ Least p) × (new ≡ record old { best = None })
+
+-- what a walk through an old tree stands on: the sizes and the pool are those of the mill, and the decisions those above the next node
+pub record IsWorkplace (m : Mill) (listed : List ℕ) (columns : Pool) (decisions : Decisions) (path : List Decision) : Type 0 where
+  pub sizes : listed ≡ m.sizes
+  pub pool : columns.mill ≡ m
+  pub orders : decisions.orders ≡ length m.orders
+  pub yard : decisions.yard ≡ length m.yard
+  pub list : decisions.list ≡ path
 
 -- what a step stands on: the pool is that of the mill, and the decisions are those above the next node
 pub record IsPlaceAt (place : Workplace) (columns : Pool) (path : List Decision) : Type 0 where

@@ -4,11 +4,10 @@ ghost use Rattle.std.specs.Prelude.{◌≡◌, ◌≤◌, ◌∷◌, [], IfOk, O
 ghost use Rattle.mill_model.specs.Decisions.{IsAskAmong};
 ghost use Rattle.slab_relax.specs.Tallies.{AreNoLess, HaveCauses};
 ghost use Rattle.slab_node.specs.Turns.{IsUndecided};
-ghost use Rattle.slab_tree.specs.Asking.{extent_of};
 ghost use Rattle.slab_tree.specs.Marking.{is_bare};
 ghost use Rattle.slab_tree.specs.Rewriting.{StillShows, HasNoPlanAt, IsRenewed, IsRewriting, MovesOn, HasRoom, IsTallied, AreKept, IsNoted};
 ghost use Rattle.slab_tree.specs.Searches.{HasLimitsBelow, IsFinished, limits_of, bare_count};
-ghost use Rattle.slab_tree.specs.Stepping.{IsBranched, IsPlaceAt};
+ghost use Rattle.slab_tree.specs.Stepping.{IsBranched, IsWorkplace};
 ghost use Rattle.slab_tree.specs.Tightening.{IsTightened, MayCountBare, AreBareCounted};
 
 use super::{Phase, Tree};
@@ -16,7 +15,6 @@ use crate::keeping::is_loss_within;
 use crate::path::decide;
 use crate::rest::Rest;
 use crate::showing::{is_bare, mark_of};
-use crate::workplace::Workplace;
 use crate::{Node, Nodes};
 use loss_table::LossTable;
 use mill_model::{Ask, Mark, Mill, Prices};
@@ -70,10 +68,22 @@ impl Tree {
         ensures mill { pool.new.mill ≡ mill.now }
     {
         let _counted = nodes.opened();
-        let mut place = Workplace::new(alloc, mill, table)?;
+        let orders = mill.orders().len() as u16;
+        let yard = mill.yard().len() as u16;
+        let mut decisions = Decisions::new(alloc, orders, yard)?;
         let (mut tree, mut rest) = self.begin_again(alloc);
         while let Some(node) = rest.next() {
-            tree.rewrite(alloc, &mut place, node, &mut rest, pool, nodes, tally)?;
+            tree.rewrite(
+                alloc,
+                mill,
+                table,
+                node,
+                &mut rest,
+                &mut decisions,
+                pool,
+                nodes,
+                tally,
+            )?;
         }
         tree.recount();
         Ok(tree)
@@ -108,45 +118,46 @@ impl Tree {
     fn rewrite(
         &mut self,
         alloc: Global,
-        place: &mut Workplace<'_>,
+        mill: &Mill,
+        table: &LossTable,
         node: Node,
         rest: &mut Rest,
+        decisions: &mut Decisions,
         pool: &mut Pool,
         nodes: &mut Nodes,
         tally: &mut Tally,
     ) -> Result<(), AllocError>
         requires limits { HasLimitsBelow self.old }
-        requires walk { IsRewriting place.old.mill.now self.old (node ∷ rest.old) }
-        requires place { IsPlaceAt place.old pool.old self.old.path }
-        ensures moves { OnOk result (MovesOn place.old.mill.now self.old self.new node rest.old rest.new) }
-        ensures place { OnOk result (self.new.phase ≡ Phase.Running → IsPlaceAt place.new pool.new self.new.path) }
+        requires walk { IsRewriting mill.now self.old (node ∷ rest.old) }
+        requires place { IsWorkplace mill.now table.now pool.old decisions.old self.old.path }
+        ensures moves { OnOk result (MovesOn mill.now self.old self.new node rest.old rest.new) }
+        ensures place { OnOk result (self.new.phase ≡ Phase.Running → IsWorkplace mill.now table.now pool.new decisions.new self.new.path) }
         ensures tallied { OnOk result (HasRoom nodes.old (node ∷ rest.old) → IsTallied nodes.old nodes.new self.old.nodes self.new.nodes (node ∷ rest.old) rest.new) }
         ensures room { OnOk result (HasRoom nodes.old (node ∷ rest.old) → HasRoom nodes.new rest.new) }
         ensures causes { OnOk result (HaveCauses (bare_count self.old.nodes) tally.old (bare_count self.new.nodes) tally.new) }
         ensures kept { AreKept nodes.old nodes.new }
         ensures bare { HaveCauses nodes.old.bare tally.old nodes.new.bare tally.new }
         ensures counters { AreNoLess tally.old tally.new }
-        ensures pool { pool.new.mill ≡ place.old.mill.now }
-        ensures mill { place.new.mill.now ≡ place.old.mill.now }
+        ensures mill { pool.new.mill ≡ mill.now }
     {
         let _counted = nodes.opened();
         match node {
             Node::Closed(prices) => {
-                self.turn_back(prices, &mut place.decisions)?;
+                self.turn_back(prices, decisions)?;
                 Ok(())
             }
-            Node::Branched(ask, mark) if self.still_shows(place.mill, &mark) => {
-                self.keep(ask, mark, false, &mut place.decisions, nodes)
+            Node::Branched(ask, mark) if self.still_shows(mill, &mark) => {
+                self.keep(ask, mark, false, decisions, nodes)
             }
             Node::Branched(ask, mark) => {
-                match self.decide_anew(alloc, place, pool, tally)? {
+                match self.decide_anew(alloc, mill, table, decisions, pool, tally)? {
                     Renewed::Leaf(prices) => {
                         rest.pass_two();
-                        self.turn_back(prices, &mut place.decisions)?;
+                        self.turn_back(prices, decisions)?;
                         Ok(())
                     }
                     Renewed::Split(shown) => {
-                        self.keep(ask, shown, is_bare(&mark), &mut place.decisions, nodes)
+                        self.keep(ask, shown, is_bare(&mark), decisions, nodes)
                     }
                 }
             }
@@ -167,27 +178,21 @@ impl Tree {
     fn decide_anew(
         &self,
         alloc: Global,
-        place: &Workplace<'_>,
+        mill: &Mill,
+        table: &LossTable,
+        decisions: &Decisions,
         pool: &mut Pool,
         tally: &mut Tally,
     ) -> Result<Renewed, AllocError>
         requires limits { HasLimitsBelow self.now }
-        requires place { IsPlaceAt place.now pool.old self.now.path }
-        requires none { HasNoPlanAt place.now.mill.now (limits_of self.now) self.now.path }
-        ensures renewed { IfOk result (IsRenewed place.now.mill.now (limits_of self.now) self.now.path tally.old tally.new) }
+        requires place { IsWorkplace mill.now table.now pool.old decisions.now self.now.path }
+        requires none { HasNoPlanAt mill.now (limits_of self.now) self.now.path }
+        ensures renewed { IfOk result (IsRenewed mill.now (limits_of self.now) self.now.path tally.old tally.new) }
         ensures counters { AreNoLess tally.old tally.new }
-        ensures mill { pool.new.mill ≡ place.now.mill.now }
+        ensures mill { pool.new.mill ≡ mill.now }
     {
         let limits = self.limits();
-        match turn(
-            alloc,
-            place.mill,
-            place.table,
-            &place.decisions,
-            limits,
-            pool,
-            tally,
-        )? {
+        match turn(alloc, mill, table, decisions, limits, pool, tally)? {
             Turned::Refuted(prices) => Ok(Renewed::Leaf(prices)),
             Turned::Spread(cover, _) => {
                 let shown = mark_of(alloc, pool, &cover, tally)?;
@@ -212,7 +217,6 @@ impl Tree {
         requires path { decisions.old.list ≡ self.old.path }
         ensures ok { OnOk result (IsBranched ask mark self.old self.new) }
         ensures told { OnOk result (decisions.new ≡ record decisions.old { list = self.new.path }) }
-        ensures extent { extent_of decisions.new ≡ extent_of decisions.old }
         ensures noted { OnOk result (IsNoted (is_bare mark) counted nodes.old nodes.new) }
         ensures unnoted { OnErr result (nodes.new ≡ nodes.old) }
     {

@@ -19,22 +19,22 @@ turn_at m l k p q a b t u e f h w = subst (λ (x : Turned). IsTurn m k q a b x) 
 
 pub returns-in-Refuted-clause-renewed : goal.returns-in-Refuted-clause-renewed
 returns-in-Refuted-clause-renewed c =
-    turn_at c.args.place.now.mill.now c.limits-limits.result (limits_of c.args.self.now) c.args.place.now.decisions.list c.args.self.now.path c.args.tally.now c.turn.new.tally c.in_ok-prices.field-0 (Refuted c.in-Refuted.prices) c.limits-limits.ensures c.requires.place.list c.in-Refuted.is c.in_ok-prices.ensures.turned
+    turn_at c.args.mill.now c.limits-limits.result (limits_of c.args.self.now) c.args.decisions.now.list c.args.self.now.path c.args.tally.now c.turn.new.tally c.in_ok-prices.field-0 (Refuted c.in-Refuted.prices) c.limits-limits.ensures c.requires.place.list c.in-Refuted.is c.in_ok-prices.ensures.turned
 
 pub returns-in-Spread-clause-renewed : goal.returns-in-Spread-clause-renewed
 returns-in-Spread-clause-renewed c =
-    let covered : IsPoolCover c.args.place.now.mill.now (limits_of c.args.self.now) c.args.self.now.path c.turn.new.pool.columns c.in-Spread.cover =
-    subst (λ (l : Limits). IsPoolCover c.args.place.now.mill.now l c.args.self.now.path c.turn.new.pool.columns c.in-Spread.cover) c.limits-limits.ensures
-    (subst (λ (p : List Decision). IsPoolCover c.args.place.now.mill.now c.limits-limits.result p c.turn.new.pool.columns c.in-Spread.cover) c.requires.place.list
-    (subst (λ (t : Turned). IfSpread t (IsPoolCover c.args.place.now.mill.now c.limits-limits.result c.args.place.now.decisions.list c.turn.new.pool.columns)) c.in-Spread.is c.in_ok-prices.ensures.cover)) in
+    let covered : IsPoolCover c.args.mill.now (limits_of c.args.self.now) c.args.self.now.path c.turn.new.pool.columns c.in-Spread.cover =
+    subst (λ (l : Limits). IsPoolCover c.args.mill.now l c.args.self.now.path c.turn.new.pool.columns c.in-Spread.cover) c.limits-limits.ensures
+    (subst (λ (p : List Decision). IsPoolCover c.args.mill.now c.limits-limits.result p c.turn.new.pool.columns c.in-Spread.cover) c.requires.place.list
+    (subst (λ (t : Turned). IfSpread t (IsPoolCover c.args.mill.now c.limits-limits.result c.args.decisions.now.list c.turn.new.pool.columns)) c.in-Spread.is c.in_ok-prices.ensures.cover)) in
     let cause : is_bare c.in_ok-shown-in-Spread.shown ≡ true → HasCause c.args.tally.now c.mark_of.new.tally = λ e. cause_earlier c.args.tally.now c.turn.new.tally c.mark_of.new.tally c.in_ok-prices.ensures.counters (c.in_ok-shown-in-Spread.ensures.cause e) in
-    (c.in_ok-shown-in-Spread.ensures.shows c.args.place.now.mill.now (limits_of c.args.self.now) c.args.self.now.path covered, cause)
+    (c.in_ok-shown-in-Spread.ensures.shows c.args.mill.now (limits_of c.args.self.now) c.args.self.now.path covered, cause)
 
 pub returns-in-Bare-clause-renewed : goal.returns-in-Bare-clause-renewed
 returns-in-Bare-clause-renewed c =
-    (tt, λ _. (turn_at c.args.place.now.mill.now c.limits-limits.result (limits_of c.args.self.now) c.args.place.now.decisions.list c.args.self.now.path c.args.tally.now c.turn.new.tally c.in_ok-prices.field-0 (BareTurn c.in-Bare.field-0) c.limits-limits.ensures c.requires.place.list c.in-Bare.is c.in_ok-prices.ensures.turned).0)
+    (tt, λ _. (turn_at c.args.mill.now c.limits-limits.result (limits_of c.args.self.now) c.args.decisions.now.list c.args.self.now.path c.args.tally.now c.turn.new.tally c.in_ok-prices.field-0 (BareTurn c.in-Bare.field-0) c.limits-limits.ensures c.requires.place.list c.in-Bare.is c.in_ok-prices.ensures.turned).0)
 
 pub unreachable-requires : goal.unreachable-requires
 unreachable-requires c =
     c.requires.none c.in-InBox.field-0
-    (turn_at c.args.place.now.mill.now c.limits-limits.result (limits_of c.args.self.now) c.args.place.now.decisions.list c.args.self.now.path c.args.tally.now c.turn.new.tally c.in_ok-prices.field-0 (InBox c.in-InBox.field-0) c.limits-limits.ensures c.requires.place.list c.in-InBox.is c.in_ok-prices.ensures.turned)
+    (turn_at c.args.mill.now c.limits-limits.result (limits_of c.args.self.now) c.args.decisions.now.list c.args.self.now.path c.args.tally.now c.turn.new.tally c.in_ok-prices.field-0 (InBox c.in-InBox.field-0) c.limits-limits.ensures c.requires.place.list c.in-InBox.is c.in_ok-prices.ensures.turned)

@@ -17,13 +17,13 @@ use Rattle.slab_tree.proofs.tree.Tree.rewrite.Goals as goal
 
 pub turn_back-requires : goal.turn_back-requires
 turn_back-requires c =
-    rw (c.args.place.now.extent.orders, c.args.place.now.extent.yard)
-    (path_open c.args.place.now.mill.now (ShowsCoverUnlessBare c.args.place.now.mill.now (limits_of c.args.self.now)) (limits_of c.args.self.now) c.args.self.now.path c.args.self.now.nodes c.requires.walk.stands)
+    rw (c.requires.place.orders, c.requires.place.yard)
+    (path_open c.args.mill.now (ShowsCoverUnlessBare c.args.mill.now (limits_of c.args.self.now)) (limits_of c.args.self.now) c.args.self.now.path c.args.self.now.nodes c.requires.walk.stands)
 
 pub returns-in_ok-turn_back-in-Closed-clause-moves : goal.returns-in_ok-turn_back-in-Closed-clause-moves
 returns-in_ok-turn_back-in-Closed-clause-moves c =
-    subst (λ (n : Node). MovesOn c.args.place.now.mill.now c.args.self.now c.turn_back.new.self n c.args.rest.now c.args.rest.now) (sym c.in-Closed.is)
-    (leaf_moves c.args.place.now.mill.now c.args.self.now c.turn_back.new.self c.in-Closed.prices c.args.rest.now (subst (λ (n : Node). IsRewriting c.args.place.now.mill.now c.args.self.now (n ∷ c.args.rest.now)) c.in-Closed.is c.requires.walk) c.in_ok-turn_back-in-Closed.ensures.ok)
+    subst (λ (n : Node). MovesOn c.args.mill.now c.args.self.now c.turn_back.new.self n c.args.rest.now c.args.rest.now) (sym c.in-Closed.is)
+    (leaf_moves c.args.mill.now c.args.self.now c.turn_back.new.self c.in-Closed.prices c.args.rest.now (subst (λ (n : Node). IsRewriting c.args.mill.now c.args.self.now (n ∷ c.args.rest.now)) c.in-Closed.is c.requires.walk) c.in_ok-turn_back-in-Closed.ensures.ok)
 
 pub returns-in_ok-turn_back-in-Closed-clause-tallied : goal.returns-in_ok-turn_back-in-Closed-clause-tallied
 returns-in_ok-turn_back-in-Closed-clause-tallied c = λ room.
@@ -42,21 +42,21 @@ returns-in_ok-turn_back-in-Closed-clause-causes c =
 
 pub keep-requires-clause-asked : goal.keep-requires-clause-asked
 keep-requires-clause-asked c =
-    rw (c.args.place.now.extent.orders, c.args.place.now.extent.yard)
-    (split_asks c.args.place.now.mill.now c.args.self.now c.in-Branched.ask c.in-Branched.mark c.args.rest.now (subst (λ (n : Node). IsRewriting c.args.place.now.mill.now c.args.self.now (n ∷ c.args.rest.now)) c.in-Branched.is c.requires.walk)).asked
+    rw (c.requires.place.orders, c.requires.place.yard)
+    (split_asks c.args.mill.now c.args.self.now c.in-Branched.ask c.in-Branched.mark c.args.rest.now (subst (λ (n : Node). IsRewriting c.args.mill.now c.args.self.now (n ∷ c.args.rest.now)) c.in-Branched.is c.requires.walk)).asked
 
 pub keep-requires-clause-undecided : goal.keep-requires-clause-undecided
 keep-requires-clause-undecided c =
     rw c.requires.place.list
-    (split_asks c.args.place.now.mill.now c.args.self.now c.in-Branched.ask c.in-Branched.mark c.args.rest.now (subst (λ (n : Node). IsRewriting c.args.place.now.mill.now c.args.self.now (n ∷ c.args.rest.now)) c.in-Branched.is c.requires.walk)).undecided
+    (split_asks c.args.mill.now c.args.self.now c.in-Branched.ask c.in-Branched.mark c.args.rest.now (subst (λ (n : Node). IsRewriting c.args.mill.now c.args.self.now (n ∷ c.args.rest.now)) c.in-Branched.is c.requires.walk)).undecided
 
 pub returns-in-Branched-clause-moves : goal.returns-in-Branched-clause-moves
 returns-in-Branched-clause-moves c =
-    let still : StillShows c.args.place.now.mill.now c.args.self.now c.in-Branched.mark = c.still_shows.ensures c.if-still_shows.true in
-    let walk : IsRewriting c.args.place.now.mill.now c.args.self.now (Branched c.in-Branched.ask c.in-Branched.mark ∷ c.args.rest.now) = subst (λ (n : Node). IsRewriting c.args.place.now.mill.now c.args.self.now (n ∷ c.args.rest.now)) c.in-Branched.is c.requires.walk in
-    subst (λ (n : Node). OnOk c.keep.result (MovesOn c.args.place.now.mill.now c.args.self.now c.keep.new.self n c.args.rest.now c.args.rest.now)) (sym c.in-Branched.is)
+    let still : StillShows c.args.mill.now c.args.self.now c.in-Branched.mark = c.still_shows.ensures c.if-still_shows.true in
+    let walk : IsRewriting c.args.mill.now c.args.self.now (Branched c.in-Branched.ask c.in-Branched.mark ∷ c.args.rest.now) = subst (λ (n : Node). IsRewriting c.args.mill.now c.args.self.now (n ∷ c.args.rest.now)) c.in-Branched.is c.requires.walk in
+    subst (λ (n : Node). OnOk c.keep.result (MovesOn c.args.mill.now c.args.self.now c.keep.new.self n c.args.rest.now c.args.rest.now)) (sym c.in-Branched.is)
     (on_ok_weaker c.keep.result
-    (kept_moves c.args.place.now.mill.now c.args.self.now c.keep.new.self c.in-Branched.ask c.in-Branched.mark c.in-Branched.mark c.args.rest.now walk (still.shows c.args.self.now.path (marked_at c.args.place.now.mill.now c.args.self.now c.in-Branched.ask c.in-Branched.mark c.args.rest.now walk)))
+    (kept_moves c.args.mill.now c.args.self.now c.keep.new.self c.in-Branched.ask c.in-Branched.mark c.in-Branched.mark c.args.rest.now walk (still.shows c.args.self.now.path (marked_at c.args.mill.now c.args.self.now c.in-Branched.ask c.in-Branched.mark c.args.rest.now walk)))
     c.keep.ensures.ok)
 
 ok_both : {T E : Type 0} (r : Result T E) (P Q S : Type 0) → OnOk r P → OnOk r Q → (P → Q → S) → OnOk r S
@@ -65,7 +65,7 @@ ok_both (Err e) P Q S p q f = tt
 
 pub returns-in-Branched-clause-tallied : goal.returns-in-Branched-clause-tallied
 returns-in-Branched-clause-tallied c =
-    let still : StillShows c.args.place.now.mill.now c.args.self.now c.in-Branched.mark = c.still_shows.ensures c.if-still_shows.true in
+    let still : StillShows c.args.mill.now c.args.self.now c.in-Branched.mark = c.still_shows.ensures c.if-still_shows.true in
     ok_both c.keep.result (IsBranched c.in-Branched.ask c.in-Branched.mark c.args.self.now c.keep.new.self) (IsNoted (is_bare c.in-Branched.mark) false c.args.nodes.now c.keep.new.nodes) _ c.keep.ensures.ok c.keep.ensures.noted
     (λ branched noted room.
     subst (λ (n : Node). IsTallied c.args.nodes.now c.keep.new.nodes c.args.self.now.nodes c.keep.new.self.nodes (n ∷ c.args.rest.now) c.args.rest.now) (sym c.in-Branched.is)
@@ -75,7 +75,7 @@ returns-in-Branched-clause-tallied c =
 
 pub returns-in-Branched-clause-causes : goal.returns-in-Branched-clause-causes
 returns-in-Branched-clause-causes c =
-    let still : StillShows c.args.place.now.mill.now c.args.self.now c.in-Branched.mark = c.still_shows.ensures c.if-still_shows.true in
+    let still : StillShows c.args.mill.now c.args.self.now c.in-Branched.mark = c.still_shows.ensures c.if-still_shows.true in
     let never : is_bare c.in-Branched.mark ≡ true → HasCause c.args.tally.now c.args.tally.now = λ e. absurd (true_false (sym e ∙ still.covered)) in
     on_ok_weaker c.keep.result (kept_causes c.args.self.now c.keep.new.self c.args.tally.now c.args.tally.now c.in-Branched.ask c.in-Branched.mark (no_less_same c.args.tally.now) never) c.keep.ensures.ok
   where

@@ -36,9 +36,14 @@ loop-node-init c =
       same = h.0;
       limits = h.1;
       walk = begins_anew c.args.mill.now c.args.self c.begin_again-tree.result.0 c.begin_again-tree.result.1 c.requires.tree c.begin_again-tree.ensures.tree c.begin_again-tree.ensures.rest;
-      place = λ _. record { pool = c.requires.pool ∙ sym c.in_ok-place.ensures.mill; list = c.in_ok-place.ensures.none ∙ sym (ap (λ (t : Search). t.path) c.begin_again-tree.ensures.tree) };
-      pool = c.requires.pool;
-      mill = c.in_ok-place.ensures.mill;
+      place = λ _. record {
+        sizes = c.requires.sizes;
+        pool = c.requires.pool;
+        orders = ap (λ d. d.orders) c.in_ok-decisions.ensures ∙ ap (λ os. length os) c.orders.ensures.value;
+        yard = ap (λ d. d.yard) c.in_ok-decisions.ensures ∙ ap (λ ys. length ys) c.yard.ensures.value;
+        list = ap (λ d. d.list) c.in_ok-decisions.ensures ∙ sym (ap (λ (t : Search). t.path) c.begin_again-tree.ensures.tree);
+      };
+      mill = c.requires.pool;
       fewer = h.2;
       kept = record { limit = refl; opened = refl; rises = omega arith };
       room = h.3;
@@ -61,8 +66,7 @@ loop-node-preserved c =
       limits = same_limits c.loop-node.tree c.rewrite.new.self c.in_ok-rewrite.ensures.moves.same c.loop-node.invariant.limits;
       walk = c.in_ok-rewrite.ensures.moves.walk;
       place = c.in_ok-rewrite.ensures.place;
-      pool = c.in_ok-rewrite.ensures.pool ∙ c.loop-node.invariant.mill;
-      mill = c.in_ok-rewrite.ensures.mill ∙ c.loop-node.invariant.mill;
+      mill = c.in_ok-rewrite.ensures.mill;
       fewer = omega (arith, c.in_ok-rewrite.ensures.moves.fewer, c.loop-node.invariant.fewer, ap length before);
       kept = kept_trans c.args.nodes.now c.loop-node.nodes c.rewrite.new.nodes c.loop-node.invariant.kept c.in_ok-rewrite.ensures.kept;
       room = c.in_ok-rewrite.ensures.room room;

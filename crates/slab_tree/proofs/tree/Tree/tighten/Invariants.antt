@@ -3,7 +3,7 @@ use Rattle.slab_relax.specs.Tallies.{AreNoLess, HaveCauses}
 use Rattle.slab_tree.specs.declared.tree.Phase.TheVariants.{Running}
 use Rattle.slab_tree.specs.Rewriting.{IsSameTree, IsWalk, AreKept, HasRoom, IsTallied}
 use Rattle.slab_tree.specs.Searches.{HasLimitsBelow, bare_count}
-use Rattle.slab_tree.specs.Stepping.{IsPlaceAt}
+use Rattle.slab_tree.specs.Stepping.{IsWorkplace}
 use Rattle.slab_tree.proofs.tree.Tree.tighten.Given as goal
 
 abbrev pub invariant-loop-node : goal.invariant-loop-node
@@ -11,9 +11,8 @@ invariant-loop-node l = record {
   same : IsSameTree l.fn.self l.tree;
   limits : HasLimitsBelow l.tree;
   walk : IsWalk l.mill l.tree l.rest;
-  place : l.tree.phase ≡ Running → IsPlaceAt l.place l.pool l.tree.path;
-  pool : l.pool.mill ≡ l.mill;
-  mill : l.place.mill.now ≡ l.mill;
+  place : l.tree.phase ≡ Running → IsWorkplace l.mill l.table l.pool l.decisions l.tree.path;
+  mill : l.pool.mill ≡ l.mill;
   fewer : length l.tree.nodes + length l.rest ≤ length l.fn.self.nodes;
   kept : AreKept l.fn.nodes l.nodes;
   room : HasRoom l.nodes l.rest;
