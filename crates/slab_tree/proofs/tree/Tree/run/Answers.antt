@@ -43,41 +43,41 @@ on_err (Err e) P p = p
 
 -- ---- memory was wanting before the loop
 
-pub returns-in_err-made-clause-few : goal.returns-in_err-made-clause-few
-returns-in_err-made-clause-few c = few_running c.args.mill.now c.begin.new.self c.in_err-made.ensures.begun.running
+pub returns-in_err-place-clause-few : goal.returns-in_err-place-clause-few
+returns-in_err-place-clause-few c = few_running c.args.mill.now c.begin.new.self c.in_err-place.ensures.begun.running
 
-pub returns-in_err-made-clause-memory : goal.returns-in_err-made-clause-memory
-returns-in_err-made-clause-memory c = on_err c.from_residual.result (IsRunning c.args.mill.now c.begin.new.self) c.in_err-made.ensures.begun.running
+pub returns-in_err-place-clause-memory : goal.returns-in_err-place-clause-memory
+returns-in_err-place-clause-memory c = on_err c.from_residual.result (IsRunning c.args.mill.now c.begin.new.self) c.in_err-place.ensures.begun.running
 
-pub returns-in_err-made-clause-later : goal.returns-in_err-made-clause-later
-returns-in_err-made-clause-later c = on_err c.from_residual.result (IsLater c.args.mill.now c.args.self.now c.begin.new.self) c.in_err-made.ensures.begun.later
+pub returns-in_err-place-clause-later : goal.returns-in_err-place-clause-later
+returns-in_err-place-clause-later c = on_err c.from_residual.result (IsLater c.args.mill.now c.args.self.now c.begin.new.self) c.in_err-place.ensures.begun.later
 
-pub returns-in_err-made-clause-causes : goal.returns-in_err-made-clause-causes
-returns-in_err-made-clause-causes c = causes_same (bare_count c.args.self.now.nodes) (bare_count c.begin.new.self.nodes) c.args.tally.now c.args.tally.now (ap bare_count c.in_err-made.ensures.begun.nodes) (no_less_same c.args.tally.now)
+pub returns-in_err-place-clause-causes : goal.returns-in_err-place-clause-causes
+returns-in_err-place-clause-causes c = causes_same (bare_count c.args.self.now.nodes) (bare_count c.begin.new.self.nodes) c.args.tally.now c.args.tally.now (ap bare_count c.in_err-place.ensures.begun.nodes) (no_less_same c.args.tally.now)
 
-pub returns-in_err-made-clause-bare_end : goal.returns-in_err-made-clause-bare_end
-returns-in_err-made-clause-bare_end c = λ bare. absurd (runs c.begin.new.self.phase bare c.in_err-made.ensures.begun.running.running)
+pub returns-in_err-place-clause-bare_end : goal.returns-in_err-place-clause-bare_end
+returns-in_err-place-clause-bare_end c = λ bare. absurd (runs c.begin.new.self.phase bare c.in_err-place.ensures.begun.running.running)
   where
     runs : (f : Phase) → f ≡ Refused true → f ≡ Running → ⊥
     runs f a b = cc
 
-pub returns-in_err-made-clause-one : goal.returns-in_err-made-clause-one
-returns-in_err-made-clause-one c = λ refuted none. one_of c.args.mill.now c.begin.new.self c.in_err-made.ensures.begun.running (c.in_err-made.ensures.begun.nodes ∙ none)
+pub returns-in_err-place-clause-one : goal.returns-in_err-place-clause-one
+returns-in_err-place-clause-one c = λ refuted none. one_of c.args.mill.now c.begin.new.self c.in_err-place.ensures.begun.running (c.in_err-place.ensures.begun.nodes ∙ none)
 
 -- ---- the loop
 
 pub nodes-init : goal.nodes-init
 nodes-init c = record {
-  tree = c.in_ok-made.ensures.begun.running;
-  room = c.in_ok-made.ensures.begun.room;
-  later = c.in_ok-made.ensures.begun.later;
-  place = record { pool = c.requires.pool ∙ sym c.in_ok-made.ensures.mill; list = c.in_ok-made.ensures.told };
-  mill = c.in_ok-made.ensures.mill;
-  limit = c.in_ok-made.ensures.begun.counts.limit;
-  counts = c.in_ok-made.ensures.begun.counts;
+  tree = c.in_ok-place.ensures.begun.running;
+  room = c.in_ok-place.ensures.begun.room;
+  later = c.in_ok-place.ensures.begun.later;
+  place = record { pool = c.requires.pool ∙ sym c.in_ok-place.ensures.mill; list = c.in_ok-place.ensures.told };
+  mill = c.in_ok-place.ensures.mill;
+  limit = c.in_ok-place.ensures.begun.counts.limit;
+  counts = c.in_ok-place.ensures.begun.counts;
   counters = no_less_same c.args.tally.now;
-  causes = causes_same (bare_count c.args.self.now.nodes) (bare_count c.begin.new.self.nodes) c.args.tally.now c.args.tally.now (ap bare_count c.in_ok-made.ensures.begun.nodes) (no_less_same c.args.tally.now);
-  plain = λ refuted none. record { limits = c.in_ok-made.ensures.begun.plain refuted; none = c.in_ok-made.ensures.begun.nodes ∙ none };
+  causes = causes_same (bare_count c.args.self.now.nodes) (bare_count c.begin.new.self.nodes) c.args.tally.now c.args.tally.now (ap bare_count c.in_ok-place.ensures.begun.nodes) (no_less_same c.args.tally.now);
+  plain = λ refuted none. record { limits = c.in_ok-place.ensures.begun.plain refuted; none = c.in_ok-place.ensures.begun.nodes ∙ none };
 }
 
 pub step-requires-clause-tree : goal.step-requires-clause-tree
