@@ -39,6 +39,23 @@ fn least(
     }
 }
 
+// The loss and the count of the start, completed to a plan within a count limit.
+fn completed(
+    repack: &mut Repack,
+    alloc: Global,
+    mill: &Mill,
+    count: i64,
+) -> Result<Option<(u32, u16)>, AllocError> {
+    let limits = Limits {
+        loss: None,
+        count: Some(count),
+    };
+    match repack.completed(alloc, mill, limits)? {
+        Some(plan) => Ok(sums_of(mill, &plan)),
+        None => Ok(None),
+    }
+}
+
 fn sums_of(mill: &Mill, plan: &Plan) -> Option<(u32, u16)> {
     match plan.judge(mill) {
         Ok(sums) => Some((sums.loss, sums.count)),
@@ -68,6 +85,8 @@ fn takes_columns(rt: HostRuntime) -> Result<(), Fail> {
     let mut repack = Repack::new(alloc, &mill, &table)?;
     assert!(rt; repack.take(Kind::New(10), &[1, 2]));
     assert!(rt; !repack.take(Kind::New(10), &[0, 1]));
+    assert_eq!(rt; completed(&mut repack, alloc, &mill, 1)?, None);
+    assert_eq!(rt; completed(&mut repack, alloc, &mill, 2)?, Some((0, 2)));
     assert_eq!(rt; least(&mut repack, alloc, &mill, 2)?, Some((0, 2)));
     Ok(())
 }
