@@ -10,8 +10,6 @@ mod line;
 mod line_buf;
 mod number;
 mod nums;
-#[cfg(test)]
-mod tests;
 mod view;
 
 pub use laws::{read_is_text, text_is_read, text_is_short, whole_is_first, whole_is_text};

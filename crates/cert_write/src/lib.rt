@@ -10,8 +10,6 @@ mod points;
 mod questions;
 mod slabs;
 mod stored;
-#[cfg(test)]
-mod tests;
 mod trees;
 mod write;
 

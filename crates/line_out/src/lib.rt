@@ -6,8 +6,6 @@
 mod end;
 mod line_out;
 mod numbers;
-#[cfg(test)]
-mod tests;
 
 pub use end::{End, Said, Written};
 pub use line_out::LineOut;

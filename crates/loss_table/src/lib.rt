@@ -6,5 +6,3 @@ mod loss_table;
 
 pub use loss_table::LossTable;
 
-#[cfg(test)]
-mod tests;

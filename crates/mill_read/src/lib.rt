@@ -13,8 +13,6 @@ mod laws;
 mod lists;
 mod orders;
 mod plans;
-#[cfg(test)]
-mod tests;
 mod words;
 mod yards;
 

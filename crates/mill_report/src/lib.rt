@@ -6,8 +6,6 @@
 mod ending;
 mod report;
 mod summary;
-#[cfg(test)]
-mod tests;
 mod word;
 
 pub use report::say_report;

@@ -34,8 +34,6 @@ mod search;
 mod sets;
 mod sizes;
 mod table;
-#[cfg(test)]
-mod tests;
 mod trail;
 mod walk;
 mod workspace;

@@ -1,4 +1,3 @@
 pub mod Places
 pub mod FlatColumns
 pub mod Growth
-pub mod Legal

@@ -13,8 +13,6 @@ mod index;
 mod last_basic;
 mod mill_copy;
 mod pool;
-#[cfg(test)]
-mod tests;
 
 pub use add_error::AddError;
 pub use column::ColId;

@@ -13,5 +13,3 @@ mod open_asks;
 pub use clash::Clash;
 pub use decisions::Decisions;
 
-#[cfg(test)]
-mod tests;

@@ -10,8 +10,6 @@ mod mem_desk;
 mod mem_file;
 mod real_desk;
 mod reserved;
-#[cfg(test)]
-mod tests;
 mod whole;
 
 pub use calls::Act;

@@ -106,33 +106,3 @@ impl<R: Files + Print + Drop> Desk for RealDesk<R> {
         Err(fault(&mut self.faults, &mut self.stopped))
     }
 }
-
-#[cfg(test)]
-mod tests {
-    use super::*;
-    use crate::{ReadFail, read_all, say_all, write_all};
-    use std::test::Fail;
-
-    const NAME: &str = "slab_desk_round_trip";
-
-    #[test]
-    fn a_file_goes_out_and_comes_back(rt: HostRuntime) -> Result<(), Fail> {
-        let alloc = rt.alloc();
-        let mut desk = RealDesk::new(&rt);
-        assert!(rt; desk.open_file("slab_desk_no_such_file").is_err());
-        assert!(rt; desk.write(b"1").is_err(), "nothing was created");
-        assert_eq!(rt; desk.faults, 2);
-
-        desk.create_file(NAME)?;
-        write_all(&mut desk, b"1 10\n")?;
-        let bytes = read_all(alloc, &mut desk, NAME, 5)?;
-        assert_eq!(rt; bytes.as_slice(), b"1 10\n".as_slice());
-        let long = read_all(alloc, &mut desk, NAME, 4);
-        assert!(rt; matches!(long, Err(ReadFail::Long)));
-        fs::remove_file(&rt, NAME)?;
-
-        say_all(&mut desk, b"1 10\n")?;
-        assert_eq!(rt; desk.faults, 2);
-        Ok(())
-    }
-}

@@ -8,8 +8,6 @@ mod divisor;
 mod frac;
 mod lowest;
 mod scale;
-#[cfg(test)]
-mod tests;
 mod wides;
 
 pub use frac::Frac;

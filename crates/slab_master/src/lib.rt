@@ -18,8 +18,6 @@ mod outcome;
 mod problem;
 mod search;
 mod stalls;
-#[cfg(test)]
-mod tests;
 mod turns;
 
 pub use frac_list::FracList;

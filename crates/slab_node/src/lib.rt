@@ -14,8 +14,6 @@ mod plans;
 mod settle;
 mod settlement;
 mod stated;
-#[cfg(test)]
-mod tests;
 mod turned;
 mod turning;
 mod whole_plan;

@@ -26,8 +26,6 @@ mod search;
 mod sets;
 mod table;
 mod task;
-#[cfg(test)]
-mod tests;
 mod walk;
 mod worths;
 

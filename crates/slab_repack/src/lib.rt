@@ -16,8 +16,6 @@ mod release;
 mod repack;
 mod size_sums;
 mod slab;
-#[cfg(test)]
-mod tests;
 
 pub use judging::judged;
 pub use repack::Repack;

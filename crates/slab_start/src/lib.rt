@@ -11,8 +11,6 @@ mod laws;
 mod made;
 mod plan;
 mod slab;
-#[cfg(test)]
-mod tests;
 mod weights;
 
 pub use first_fit::FirstFit;

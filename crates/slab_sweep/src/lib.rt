@@ -12,5 +12,3 @@ mod swept;
 pub use sweeping::sweep;
 pub use swept::Swept;
 
-#[cfg(test)]
-mod tests;

@@ -4,12 +4,18 @@ use Rattle.mill_model.specs.declared.ask.Ask.{Ask}
 use Rattle.mill_model.specs.declared.limits.Limits.{Limits}
 use Rattle.mill_model.specs.declared.mark.Mark.{Mark}
 use Rattle.mill_model.specs.Mill.{Mill}
-use Rattle.mill_model.specs.Prices.{Prices}
+use Rattle.mill_model.specs.Plans.{Plan}
+use Rattle.mill_model.specs.Prices.{Prices, Refutes}
 use Rattle.mill_model.specs.Decisions.{Decision}
 use Rattle.mill_model.specs.Trees.{Tree}
 use Rattle.slab_counter.specs.Counter.{last_count}
+use Rattle.slab_relax.specs.declared.tally.Tally.{Tally}
+use Rattle.slab_relax.specs.Tallies.{HasCause}
+use Rattle.slab_node.specs.Turns.{IsInBox}
 use Rattle.slab_tree.specs.declared.node.Node.{Node}
 use Rattle.slab_tree.specs.declared.tree.Phase.TheVariants.{Running, Done}
+use Rattle.slab_tree.specs.declared.tree.tighten.Renewed.{Renewed}
+use Rattle.slab_tree.specs.declared.tree.tighten.Renewed.TheVariants.{Leaf, Split}
 use Rattle.slab_tree.specs.Counts.{Counts, noted_bare}
 use Rattle.slab_tree.specs.Marking.{MarkRule, HoldsCover, ShowsCoverUnlessBare, is_bare}
 use Rattle.slab_tree.specs.Searches.{Search, limits_of, opening_of, bare_count}
@@ -70,6 +76,15 @@ pub record MovesOn (m : Mill) (old new : Search) (node : Node) (before after : L
 pub record StillShows (m : Mill) (t : Search) (mark : Mark) : Type 0 where
   pub covered : is_bare mark ≡ false
   pub shows : (decisions : List Decision) → HoldsCover m (opening_of t) mark decisions → ShowsCoverUnlessBare m (limits_of t) mark decisions
+
+-- no plan within the limits agrees with the decisions
+abbrev pub HasNoPlanAt : Mill → Limits → List Decision → Type 0
+HasNoPlanAt m limits path = (p : Plan) → IsInBox m limits path p → ⊥
+
+-- what a split becomes: a leaf, whose prices refute the limits, or a split again, which shows a cover unless a cause made it bare
+abbrev pub IsRenewed : Mill → Limits → List Decision → Tally → Tally → Renewed → Type 0
+IsRenewed m limits path before after (Leaf prices) = Refutes m limits path prices
+IsRenewed m limits path before after (Split mark) = ShowsCoverUnlessBare m limits mark path × (is_bare mark ≡ true → HasCause before after)
 
 -- ---- the counts
 

@@ -3,6 +3,7 @@
 //! Read `desks` (a desk with the files of a row) and `row` (a run over it); the rows are the tests.
 #![tactic(auto)]
 
+#[cfg(test)]
 pub mod desks;
 #[cfg(test)]
 mod faults;
@@ -14,6 +15,7 @@ mod many;
 mod memory;
 #[cfg(test)]
 mod resume;
+#[cfg(test)]
 pub mod row;
 #[cfg(test)]
 mod solve;

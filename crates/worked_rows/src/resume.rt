@@ -66,8 +66,8 @@ fn resumed_searches() -> [Resumed; 4] {
 fn a_search_goes_on_from_a_cut(rt: HostRuntime) -> Result<(), Fail> {
     for (orders, cut, options, status, said) in resumed_searches() {
         let row = resumed(rt.alloc(), orders, cut, "cert", options)?;
-        assert_eq!(rt; row.said.as_slice(), said.as_bytes(), "{cut}");
-        assert_eq!(rt; row.status, status, "{cut}");
+        let holds = row.status == status && row.said.as_slice() == said.as_bytes();
+        assert!(rt; holds, "{cut}");
     }
     Ok(())
 }
@@ -79,9 +79,8 @@ fn a_cut_begins_the_front(rt: HostRuntime) -> Result<(), Fail> {
     let stored = "slabfront 2\npoint 0 2\nnew 4 1\nnew 4 2\nleaf 1 0 0 0\npoint 2 1\nnew 10 1 2\n";
     for cert in ["cert", "plan"] {
         let row = resumed(rt.alloc(), TWO, CUT, cert, "")?;
-        assert_eq!(rt; row.status, 0, "{cert}");
-        assert!(rt; row.said.starts_with(said.as_bytes()), "{cert}");
-        assert!(rt; begins(&row, stored), "{cert}");
+        let is_said = row.status == 0 && row.said.starts_with(said.as_bytes());
+        assert!(rt; is_said && begins(&row, stored), "{cert}");
     }
     Ok(())
 }

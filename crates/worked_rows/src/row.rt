@@ -49,6 +49,31 @@ pub fn failing_row(
     Ok(Some(row))
 }
 
+/// Whether a run ends with this status and this text.
+pub fn ends_so(
+    alloc: Global,
+    words: &str,
+    files: Files<'_>,
+    status: u8,
+    said: &str,
+) -> Result<bool, AllocError> {
+    let row = run_row(alloc, words, files)?;
+    Ok(row.status == status && row.said.as_slice() == said.as_bytes())
+}
+
+/// The same where no call failed and no certificate is there.
+pub fn only_says(
+    alloc: Global,
+    words: &str,
+    files: Files<'_>,
+    status: u8,
+    said: &str,
+) -> Result<bool, AllocError> {
+    let row = run_row(alloc, words, files)?;
+    let unchanged = row.faults == 0 && row.stored.is_none();
+    Ok(unchanged && row.status == status && row.said.as_slice() == said.as_bytes())
+}
+
 fn ended(alloc: Global, words: &str, desk: &mut MemDesk, cert: &str) -> Result<Row, AllocError> {
     let status = status_of(alloc, words, desk)?;
     let stored = match desk.file(cert) {

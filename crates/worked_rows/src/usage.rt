@@ -1,6 +1,7 @@
 // Words and files that are refused.
 use crate::desks::Files;
-use crate::row::run_row;
+use crate::row::{ends_so, only_says};
+use std::alloc::{AllocError, Global};
 use std::test::Fail;
 
 // The words, and what is said of them.
@@ -17,19 +18,16 @@ fn words() -> [(&'static str, &'static str); 8] {
     ]
 }
 
+const NO_FILES: Files<'static> = Files {
+    orders: b"",
+    plan: b"",
+    yard: b"",
+};
+
 #[test]
 fn words_that_can_not_stand_are_named(rt: HostRuntime) -> Result<(), Fail> {
-    let files = Files {
-        orders: b"",
-        plan: b"",
-        yard: b"",
-    };
     for (words, said) in words() {
-        let row = run_row(rt.alloc(), words, files)?;
-        assert_eq!(rt; row.said.as_slice(), said.as_bytes(), "{words}");
-        assert_eq!(rt; row.status, 1, "{words}");
-        assert_eq!(rt; row.faults, 0, "{words}");
-        assert!(rt; row.stored.is_none(), "{words}");
+        assert!(rt; only_says(rt.alloc(), words, NO_FILES, 1, said)?, "{words}");
     }
     Ok(())
 }
@@ -93,31 +91,25 @@ fn a_file_has_a_first_fault(rt: HostRuntime) -> Result<(), Fail> {
             plan: b"0",
             yard: yard.as_bytes(),
         };
-        let row = run_row(rt.alloc(), words, files)?;
-        assert_eq!(rt; row.said.as_slice(), said.as_bytes(), "{words}");
-        assert_eq!(rt; row.status, 2, "{words}");
-        assert_eq!(rt; row.faults, 0, "{words}");
-        assert!(rt; row.stored.is_none(), "{words}");
+        assert!(rt; only_says(rt.alloc(), words, files, 2, said)?, "{words}");
     }
     Ok(())
 }
 
+// Whether an order file of so many spaces is refused so.
+fn is_long(alloc: Global, count: usize, said: &str) -> Result<bool, AllocError> {
+    let orders = vec![in alloc; b' '; count]?;
+    let files = Files {
+        orders: &orders,
+        plan: b"",
+        yard: b"",
+    };
+    ends_so(alloc, "solve orders cert", files, 2, said)
+}
+
 #[test]
 fn a_file_may_be_too_long(rt: HostRuntime) -> Result<(), Fail> {
-    let alloc = rt.alloc();
-    for (count, said) in [
-        (1048576, "input orders word 1 missing\n"),
-        (1048577, "input orders long\n"),
-    ] {
-        let orders = vec![in alloc; b' '; count]?;
-        let files = Files {
-            orders: &orders,
-            plan: b"",
-            yard: b"",
-        };
-        let row = run_row(alloc, "solve orders cert", files)?;
-        assert_eq!(rt; row.said.as_slice(), said.as_bytes());
-        assert_eq!(rt; row.status, 2);
-    }
+    assert!(rt; is_long(rt.alloc(), 1048576, "input orders word 1 missing\n")?);
+    assert!(rt; is_long(rt.alloc(), 1048577, "input orders long\n")?);
     Ok(())
 }

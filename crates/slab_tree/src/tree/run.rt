@@ -1,6 +1,6 @@
 //! The search: depth first, yes before no, under limits that fall.
 
-ghost use Rattle.std.specs.Prelude.{◌≡◌, ◌≤◌, ◌<◌, ◌↔◌, IfOk, IfSome, OnOk, OnErr, IsSome, IsTrue, [], true};
+ghost use Rattle.std.specs.Prelude.{◌≡◌, ◌≤◌, ◌<◌, ◌↔◌, IfOk, IfSome, OnOk, OnErr, IsSome, IsTrue, [], true, length};
 ghost use Rattle.mill_model.specs.Decisions.{IsAskAmong};
 ghost use Rattle.mill_model.specs.Paths.{next_branch as branch_after};
 ghost use Rattle.mill_model.specs.Plain.{IsPlainlyRefuted};
@@ -13,8 +13,8 @@ ghost use Rattle.slab_tree.specs.Counts.{IsCountedSplit};
 ghost use Rattle.slab_repack.specs.FoundPlans.{IsFoundPlan};
 ghost use Rattle.slab_tree.specs.Marking.{is_bare};
 ghost use Rattle.slab_tree.specs.Standing.{IsOpenPath};
-ghost use Rattle.slab_tree.specs.Searches.{HasBareEnd, IsReady, IsRunning, IsEnded, IsAnswer, IsSameQuestion, AreRaisedBy, limits_of, bare_count};
-ghost use Rattle.slab_tree.specs.Stepping.{HasBegun, IsClosed, IsClosedAtOnce, IsLater, IsSplitUnder, IsStepped, IsWorkplace};
+ghost use Rattle.slab_tree.specs.Searches.{HasBareEnd, IsReady, IsRunning, IsEnded, IsAnswer, IsLater, IsSameQuestion, AreRaisedBy, limits_of, bare_count};
+ghost use Rattle.slab_tree.specs.Stepping.{HasBegun, MayHaveLowered, IsClosed, IsClosedAtOnce, IsSplitUnder, IsStepped, IsWorkplace};
 
 use super::{Ended, Tree};
 use crate::Nodes;
@@ -32,7 +32,8 @@ use std::alloc::{AllocError, Global};
 
 impl Tree {
     /// Runs the search, or goes on with it. Where a plan is found, the loss limit falls below its loss for the whole tree. A node
-    /// that neither prices nor a plan close is split, and marked bare where a counter of the tally rose in place of a cover.
+    /// takes turns until prices close it, or a cover shows that none do; then it is split, or marked bare where a counter of the
+    /// tally rose in place of a cover. Where a split would give more nodes than the limit, the run ends with Budget.
     ///
     /// The only error is want of memory. A later run on the tree then goes on under the same contract.
     pub fn run(
@@ -57,7 +58,7 @@ impl Tree {
 
         // Limits that are plainly refuted at the start take one node.
         ensures plain { IsPlainlyRefuted mill.now (limits_of self.old) → self.old.nodes ≡ [] → IfOk result IsAnswer }
-        ensures one { IsPlainlyRefuted mill.now (limits_of self.old) → self.old.nodes ≡ [] → IfOk result (λ _. self.new.opened ≡ 1) }
+        ensures one { IsPlainlyRefuted mill.now (limits_of self.old) → self.old.nodes ≡ [] → self.new.opened ≡ 1 }
 
         // What the tree gained, and what that has to do with the counts.
         ensures room { self.new.opened ≤ nodes.old.limit }
@@ -68,47 +69,7 @@ impl Tree {
         ensures bare_end { HasBareEnd self.new → HasCause tally.old tally.new }
         ensures mill { pool.new.mill ≡ mill.now }
     {
-        let _counted = nodes.opened();
-        let _limit = nodes.limit();
-        self.start(nodes);
-        self.go_on(alloc, mill, table, pool, nodes, tally)
-    }
-
-    // Goes on with a run that has its root.
-    fn go_on(
-        &mut self,
-        alloc: Global,
-        mill: &Mill,
-        table: &LossTable,
-        pool: &mut Pool,
-        nodes: &mut Nodes,
-        tally: &mut Tally,
-    ) -> Result<Ended, AllocError>
-        requires tree { IsRunning mill.now self.old }
-        requires room { self.old.opened ≤ nodes.old.limit }
-        requires sizes { table.now ≡ mill.now.sizes }
-        requires pool { pool.old.mill ≡ mill.now }
-        ensures ended { IfOk result (IsEnded mill.now nodes.old.limit self.old self.new) }
-        ensures memory { OnErr result (IsRunning mill.now self.new) }
-        ensures later { OnErr result (IsLater mill.now self.old self.new) }
-        ensures question { IsSameQuestion self.old self.new }
-        ensures plain { IsPlainlyRefuted mill.now (limits_of self.old) → self.old.nodes ≡ [] → IfOk result IsAnswer }
-        ensures one { IsPlainlyRefuted mill.now (limits_of self.old) → self.old.nodes ≡ [] → IfOk result (λ _. self.new.opened ≡ 1) }
-        ensures room { self.new.opened ≤ nodes.old.limit }
-        ensures few { self.new.opened < most_nodes mill.now }
-        ensures counts { AreRaisedBy nodes.old nodes.new self.old self.new }
-        ensures counters { AreNoLess tally.old tally.new }
-        ensures causes { HaveCauses (bare_count self.old.nodes) tally.old (bare_count self.new.nodes) tally.new }
-        ensures bare_end { HasBareEnd self.new → HasCause tally.old tally.new }
-        ensures mill { pool.new.mill ≡ mill.now }
-    {
-        let _counted = nodes.opened();
-        let orders = mill.orders().len() as u16;
-        let yard = mill.yard().len() as u16;
-        let mut guide = Guide::new(alloc, mill, table, orders, yard)?;
-        let mut decisions = Decisions::new(alloc, orders, yard)?;
-        self.begin(alloc, mill, &mut guide)?;
-        self.tell(&mut decisions);
+        let (mut decisions, mut guide) = self.begin(alloc, mill, table, nodes)?;
         'nodes: loop {
             if !self.step(
                 alloc,
@@ -125,10 +86,42 @@ impl Tree {
         }
     }
 
-    // Takes a plan within the limits that a search finds near the best one, before the first turn.
-    fn begin(&mut self, alloc: Global, mill: &Mill, guide: &mut Guide) -> Result<(), AllocError>
+    // Takes the root's node, and a plan that a search finds before the first turn. It answers the decisions above the next node,
+    // and what guides the run.
+    fn begin(
+        &mut self,
+        alloc: Global,
+        mill: &Mill,
+        table: &LossTable,
+        nodes: &mut Nodes,
+    ) -> Result<(Decisions, Guide), AllocError>
+        requires tree { IsReady mill.now self.old }
+        requires room { self.old.opened ≤ nodes.old.limit }
+        ensures begun { HasBegun mill.now self.old self.new nodes.old nodes.new }
+        ensures told { IfOk result (λ made. made.0 ≡ record { orders = length mill.now.orders; yard = length mill.now.yard; list = self.new.path }) }
+        ensures extent { IfOk result (λ made. made.1 ≡ extent_of made.0) }
+    {
+        let _counted = nodes.opened();
+        let _limit = nodes.limit();
+        self.start(nodes);
+        let orders = mill.orders().len() as u16;
+        let yard = mill.yard().len() as u16;
+        let mut guide = Guide::new(alloc, mill, table, orders, yard)?;
+        let mut decisions = Decisions::new(alloc, orders, yard)?;
+        self.seek_first(alloc, mill, &mut guide)?;
+        self.tell(&mut decisions);
+        Ok((decisions, guide))
+    }
+
+    // Takes a plan within the limits that a search finds near the best one, if it finds one.
+    fn seek_first(
+        &mut self,
+        alloc: Global,
+        mill: &Mill,
+        guide: &mut Guide,
+    ) -> Result<(), AllocError>
         requires { IsRunning mill.now self.old }
-        ensures begun { HasBegun mill.now self.old self.new }
+        ensures lowered { MayHaveLowered mill.now self.old self.new }
         ensures extent { guide.new ≡ guide.old }
     {
         let _orders = mill.orders();

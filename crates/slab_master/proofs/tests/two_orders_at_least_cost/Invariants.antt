@@ -1,5 +1,0 @@
-use Rattle.std.proofs.Common.{◌≡◌, length}
-use Rattle.slab_master.proofs.tests.two_orders_at_least_cost.Given as goal
-
-abbrev pub invariant-loop-costs : goal.invariant-loop-costs
-invariant-loop-costs g l = length l.master.columns ≡ 3
