@@ -7,7 +7,7 @@ ghost use Rattle.slab_repack.specs.FoundPlans.{IsFoundPlan};
 ghost use Rattle.slab_tree.specs.Trails.{HasExtentOf};
 
 use crate::records::ONE;
-use crate::rounding::ranked;
+use crate::shares::ranked;
 use crate::trail::Trail;
 use crate::workplace::Workplace;
 use mill_model::{Ask, Limits, Mill, Plan};

@@ -22,7 +22,6 @@ use crate::bounding::bounded_turn;
 use crate::dives::dive;
 use crate::guide::Guide;
 use crate::path::decide;
-use crate::rounding::rounded;
 use crate::showing::shown_or_plain;
 use crate::workplace::Workplace;
 use loss_table::LossTable;
@@ -225,7 +224,7 @@ impl Tree {
         }
     }
 
-    // Looks for a plan within the limits from a cover: by rounding it, and by dives where they are due.
+    // Looks for a plan within the limits from a cover: rounded or near that, and by dives where they are due.
     fn seek(
         &self,
         alloc: Global,
@@ -245,9 +244,6 @@ impl Tree {
         ensures counters { AreNoLess tally.old tally.new }
     {
         let limits = self.limits();
-        if let Some(plan) = rounded(alloc, place.mill, place.table, pool, cover, limits)? {
-            return Ok(Some(plan));
-        }
         if let Some(plan) = guide.seek(alloc, place.mill, pool, cover, limits, self.nodes.len())? {
             return Ok(Some(plan));
         }
