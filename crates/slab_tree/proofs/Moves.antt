@@ -19,8 +19,8 @@ use Rattle.slab_tree.specs.declared.node.Node.TheVariants.{Closed, Branched}
 use Rattle.slab_tree.specs.declared.tree.Phase.TheVariants.{Done, Refused}
 use Rattle.slab_tree.specs.Marking.{is_bare, HoldsCover}
 use Rattle.slab_tree.specs.Standing.{Stands, IsWhole, GoesOn, waiting}
-use Rattle.slab_tree.specs.Searches.{Search, limits_of, opening_of, loss_below, IsRunning, HasLimitsBelow}
-use Rattle.slab_tree.specs.Stepping.{MayHaveLowered, after_leaf, IsClosed, IsBranched, fall_room, IsLater, GoesOnFrom, IsComplete, IsOver, IsStepped, IsSplitUnder, IsSteppedBy, IsClosedAtOnce}
+use Rattle.slab_tree.specs.Searches.{Search, limits_of, opening_of, loss_below, IsLater, IsRunning, HasLimitsBelow}
+use Rattle.slab_tree.specs.Stepping.{MayHaveLowered, after_leaf, IsClosed, IsBranched, fall_room, GoesOnFrom, IsComplete, IsOver, IsStepped, IsSplitUnder, IsSteppedBy, IsClosedAtOnce}
 use Rattle.slab_tree.proofs.Limits.{at_most_refl, at_most_trans, holds_greater, holds_cover}
 use Rattle.slab_tree.proofs.Plainly.{none_within}
 use Rattle.slab_tree.proofs.Standing.{closes_leaf, splits_at, waiting_next, none_waits, stands_smaller}
@@ -138,7 +138,7 @@ module _ (m : Mill) (limit : ℕ) (old new : Search) (run : IsRunning m old) (ro
           full = h.0;
           ask = ask;
           asks = opened;
-          covered = holds_cover m (opening_of old) mark old.path (holds_greater m (limits_of old) (opening_of old) mark old.path run.search.limits.falls covered);
+          covered = holds_cover m (limits_of old) mark old.path covered;
         }),
         same_later m old _ refl refl refl refl,
       )

@@ -12,8 +12,8 @@ use Rattle.slab_tree.specs.declared.tree.Phase.TheVariants.{New, Running}
 use Rattle.slab_tree.specs.Counts.{Counts}
 use Rattle.slab_tree.specs.Marking.{HoldsCover}
 use Rattle.slab_tree.specs.Standing.{Stands, waiting}
-use Rattle.slab_tree.specs.Searches.{Search, limits_of, opening_of, IsNew, IsRunning, IsReady, IsSearch, bare_count}
-use Rattle.slab_tree.specs.Stepping.{IsStarted, HasRoot, HasBegun, MayHaveLowered, IsLater}
+use Rattle.slab_tree.specs.Searches.{Search, limits_of, opening_of, IsNew, IsRunning, IsReady, IsLater, IsSearch, bare_count}
+use Rattle.slab_tree.specs.Stepping.{IsStarted, HasRoot, HasBegun, MayHaveLowered}
 use Rattle.slab_tree.proofs.Counts.{raised_none, raised_same}
 use Rattle.slab_tree.proofs.Moves.{later_trans, same_later}
 

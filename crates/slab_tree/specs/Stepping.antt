@@ -18,7 +18,7 @@ use Rattle.slab_tree.specs.declared.tree.Phase.TheVariants.{New, Running, Done, 
 use Rattle.slab_tree.specs.declared.tree.Ended.{Ended}
 use Rattle.slab_tree.specs.declared.tree.Ended.TheVariants.{Least, NoPlan, Budget}
 use Rattle.slab_tree.specs.Marking.{is_bare}
-use Rattle.slab_tree.specs.Searches.{Search, IsRunning, IsSearch, IsFinished, IsRefused, AreRaisedBy, bare_count, limits_of}
+use Rattle.slab_tree.specs.Searches.{Search, IsLater, IsRunning, IsSearch, IsFinished, IsRefused, AreRaisedBy, bare_count, limits_of}
 
 -- ---- the moves
 
@@ -74,13 +74,6 @@ abbrev pub rank : ℕ → Search → ℕ
 rank limit t = fall_room t.loss + (limit - length t.nodes)
 
 -- ---- what a step keeps
-
--- what stays, and that the best plan is replaced by better ones alone
-pub record IsLater (m : Mill) (old new : Search) : Type 0 where
-  pub count : new.count ≡ old.count
-  pub opening : new.opening ≡ old.opening
-  pub loss : AtMost new.loss old.loss
-  pub best : (new.best ≡ old.best) ⊎ IsSomeAnd new.best (λ p. AtMost (Some (pos (sums_of m p).loss)) old.loss)
 
 -- a better plan may have been taken, and nothing else was
 pub record MayHaveLowered (m : Mill) (old new : Search) : Type 0 where

@@ -1,4 +1,5 @@
-//! What guides a run, and what no contract rests on: at which loss a node's turn aims, and what became of branches.
+//! What guides a run: at which loss a node's turn aims, which open question is split on, and when plans are sought. Contracts rest
+//! on none of it but that the question is open and that plans are within the limits.
 
 ghost use Rattle.std.specs.Prelude.{◌≡◌, ◌⊎◌, IfOk, IfSome};
 ghost use Rattle.mill_model.specs.Limits.{AreSmaller, number_of};

@@ -73,7 +73,8 @@ impl Model for Tree {
 }
 
 impl Tree {
-    /// A question about plans within the count limit, whose best plan known so far is handed in. The tree has no node yet.
+    /// A question about plans within the count limit, whose best plan known so far is handed in. The tree has no node yet. Its only
+    /// error is want of memory.
     pub fn question(
         alloc: Global,
         mill: &Mill,
@@ -104,13 +105,6 @@ impl Tree {
             opened: 0,
             phase: Phase::New,
         })
-    }
-
-    /// How many nodes are decided or wait.
-    pub fn opened(&self) -> u64
-        ensures { result ≡ self.now.opened }
-    {
-        self.opened
     }
 
     // The present limits.

@@ -13,8 +13,8 @@ ghost use Rattle.slab_tree.specs.Counts.{IsCountedSplit};
 ghost use Rattle.slab_repack.specs.FoundPlans.{IsFoundPlan};
 ghost use Rattle.slab_tree.specs.Marking.{is_bare};
 ghost use Rattle.slab_tree.specs.Standing.{IsOpenPath};
-ghost use Rattle.slab_tree.specs.Searches.{HasBareEnd, IsReady, IsRunning, IsEnded, IsAnswer, IsSameQuestion, AreRaisedBy, limits_of, bare_count};
-ghost use Rattle.slab_tree.specs.Stepping.{HasBegun, MayHaveLowered, IsClosed, IsClosedAtOnce, IsLater, IsSplitUnder, IsStepped, IsWorkplace};
+ghost use Rattle.slab_tree.specs.Searches.{HasBareEnd, IsReady, IsRunning, IsEnded, IsAnswer, IsLater, IsSameQuestion, AreRaisedBy, limits_of, bare_count};
+ghost use Rattle.slab_tree.specs.Stepping.{HasBegun, MayHaveLowered, IsClosed, IsClosedAtOnce, IsSplitUnder, IsStepped, IsWorkplace};
 
 use super::{Ended, Tree};
 use crate::Nodes;
@@ -33,7 +33,8 @@ use std::alloc::{AllocError, Global};
 
 impl Tree {
     /// Runs the search, or goes on with it. Where a plan is found, the loss limit falls below its loss for the whole tree. A node
-    /// that neither prices nor a plan close is split, and marked bare where a counter of the tally rose in place of a cover.
+    /// takes turns until prices close it, or a cover shows that none do; then it is split, or marked bare where a counter of the
+    /// tally rose in place of a cover. Where a split would give more nodes than the limit, the run ends with Budget.
     ///
     /// The only error is want of memory. A later run on the tree then goes on under the same contract.
     pub fn run(
@@ -58,7 +59,7 @@ impl Tree {
 
         // Limits that are plainly refuted at the start take one node.
         ensures plain { IsPlainlyRefuted mill.now (limits_of self.old) → self.old.nodes ≡ [] → IfOk result IsAnswer }
-        ensures one { IsPlainlyRefuted mill.now (limits_of self.old) → self.old.nodes ≡ [] → IfOk result (λ _. self.new.opened ≡ 1) }
+        ensures one { IsPlainlyRefuted mill.now (limits_of self.old) → self.old.nodes ≡ [] → self.new.opened ≡ 1 }
 
         // What the tree gained, and what that has to do with the counts.
         ensures room { self.new.opened ≤ nodes.old.limit }

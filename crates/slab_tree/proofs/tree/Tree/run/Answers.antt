@@ -11,9 +11,9 @@ use Rattle.slab_tree.specs.declared.tree.Ended.{Ended}
 use Rattle.slab_tree.specs.declared.tree.Phase.{Phase}
 use Rattle.slab_tree.specs.declared.tree.Phase.TheVariants.{Running, Refused}
 use Rattle.slab_tree.specs.Marking.{HoldsCover}
-use Rattle.slab_tree.specs.Searches.{Search, IsRunning, IsBest, IsEnded, limits_of, opening_of, bare_count}
+use Rattle.slab_tree.specs.Searches.{Search, IsLater, IsRunning, IsBest, IsEnded, limits_of, opening_of, bare_count}
 use Rattle.slab_tree.specs.Standing.{waiting}
-use Rattle.slab_tree.specs.Stepping.{IsAtRoot, IsClosedAtOnce, IsStepped, IsOver, IsLater, IsFinish, GoesOnFrom}
+use Rattle.slab_tree.specs.Stepping.{IsAtRoot, IsClosedAtOnce, IsStepped, IsOver, IsFinish, GoesOnFrom}
 use Rattle.slab_tree.proofs.Counts.{raised_trans, raised_same}
 use Rattle.slab_tree.proofs.Endings.{few_running, ending_of, done_answers, IsHandedOut, IsEnding}
 use Rattle.slab_tree.proofs.Moves.{later_trans}
@@ -60,6 +60,9 @@ returns-in_err-made-clause-bare_end c = λ bare. absurd (runs c.begin.new.self.p
     runs : (f : Phase) → f ≡ Refused true → f ≡ Running → ⊥
     runs f a b = cc
 
+pub returns-in_err-made-clause-one : goal.returns-in_err-made-clause-one
+returns-in_err-made-clause-one c = λ refuted none. one_of c.args.mill.now c.begin.new.self c.in_err-made.ensures.begun.running (c.in_err-made.ensures.begun.nodes ∙ none)
+
 -- ---- the loop
 
 pub nodes-init : goal.nodes-init
@@ -104,6 +107,11 @@ nodes-preserved c =
 
 pub returns-in_err-step-clause-few : goal.returns-in_err-step-clause-few
 returns-in_err-step-clause-few c = subst (λ (t : Search). t.opened < most_nodes c.args.mill.now) (sym c.in_err-step.ensures.err) (few_running c.args.mill.now c.nodes.self c.nodes.invariant.tree)
+
+pub returns-in_err-step-clause-one : goal.returns-in_err-step-clause-one
+returns-in_err-step-clause-one c = λ refuted none.
+    ap (λ (t : Search). t.opened) c.in_err-step.ensures.err
+    ∙ one_of c.args.mill.now c.nodes.self c.nodes.invariant.tree (c.nodes.invariant.plain refuted none).none
 
 pub returns-in_err-step-clause-memory : goal.returns-in_err-step-clause-memory
 returns-in_err-step-clause-memory c = on_err c.from_residual-in_err-step.result (IsRunning c.args.mill.now c.step.new.self) (subst (λ (t : Search). IsRunning c.args.mill.now t) (sym c.in_err-step.ensures.err) c.nodes.invariant.tree)

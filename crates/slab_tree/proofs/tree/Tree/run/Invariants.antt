@@ -3,8 +3,8 @@ use Rattle.mill_model.specs.Plain.{IsPlainlyRefuted}
 use Rattle.slab_relax.specs.Tallies.{AreNoLess, HaveCauses}
 use Rattle.slab_tree.specs.Asking.{extent_of}
 use Rattle.slab_tree.specs.Counts.{AreRaised}
-use Rattle.slab_tree.specs.Searches.{IsRunning, limits_of, bare_count}
-use Rattle.slab_tree.specs.Stepping.{IsAtRoot, IsLater, IsWorkplace, rank}
+use Rattle.slab_tree.specs.Searches.{IsLater, IsRunning, limits_of, bare_count}
+use Rattle.slab_tree.specs.Stepping.{IsAtRoot, IsWorkplace, rank}
 use Rattle.slab_tree.proofs.tree.Tree.run.Given as goal
 
 abbrev pub invariant-nodes : goal.invariant-nodes
