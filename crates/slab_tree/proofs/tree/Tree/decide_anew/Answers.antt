@@ -21,8 +21,8 @@ pub returns-in-Refuted-clause-renewed : goal.returns-in-Refuted-clause-renewed
 returns-in-Refuted-clause-renewed c =
     turn_at c.args.mill.now c.limits-limits.result (limits_of c.args.self.now) c.args.decisions.now.list c.args.self.now.path c.args.tally.now c.turn.new.tally c.in_ok-prices.field-0 (Refuted c.in-Refuted.prices) c.limits-limits.ensures c.requires.place.list c.in-Refuted.is c.in_ok-prices.ensures.turned
 
-pub returns-in-Spread-clause-renewed : goal.returns-in-Spread-clause-renewed
-returns-in-Spread-clause-renewed c =
+pub returns-in_ok-shown-in-Spread-clause-renewed : goal.returns-in_ok-shown-in-Spread-clause-renewed
+returns-in_ok-shown-in-Spread-clause-renewed c =
     let covered : IsPoolCover c.args.mill.now (limits_of c.args.self.now) c.args.self.now.path c.turn.new.pool.columns c.in-Spread.cover =
     subst (λ (l : Limits). IsPoolCover c.args.mill.now l c.args.self.now.path c.turn.new.pool.columns c.in-Spread.cover) c.limits-limits.ensures
     (subst (λ (p : List Decision). IsPoolCover c.args.mill.now c.limits-limits.result p c.turn.new.pool.columns c.in-Spread.cover) c.requires.place.list
