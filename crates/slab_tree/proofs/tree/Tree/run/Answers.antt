@@ -42,47 +42,47 @@ on_err (Err e) P p = p
 
 -- ---- memory was wanting before the loop
 
-pub returns-in_err-made-clause-few : goal.returns-in_err-made-clause-few
-returns-in_err-made-clause-few c = few_running c.args.mill.now c.begin.new.self c.in_err-made.ensures.begun.running
+pub returns-in_err-decisions-clause-few : goal.returns-in_err-decisions-clause-few
+returns-in_err-decisions-clause-few c = few_running c.args.mill.now c.begin.new.self c.in_err-decisions.ensures.begun.running
 
-pub returns-in_err-made-clause-memory : goal.returns-in_err-made-clause-memory
-returns-in_err-made-clause-memory c = on_err c.from_residual.result (IsRunning c.args.mill.now c.begin.new.self) c.in_err-made.ensures.begun.running
+pub returns-in_err-decisions-clause-memory : goal.returns-in_err-decisions-clause-memory
+returns-in_err-decisions-clause-memory c = on_err c.from_residual.result (IsRunning c.args.mill.now c.begin.new.self) c.in_err-decisions.ensures.begun.running
 
-pub returns-in_err-made-clause-later : goal.returns-in_err-made-clause-later
-returns-in_err-made-clause-later c = on_err c.from_residual.result (IsLater c.args.mill.now c.args.self.now c.begin.new.self) c.in_err-made.ensures.begun.later
+pub returns-in_err-decisions-clause-later : goal.returns-in_err-decisions-clause-later
+returns-in_err-decisions-clause-later c = on_err c.from_residual.result (IsLater c.args.mill.now c.args.self.now c.begin.new.self) c.in_err-decisions.ensures.begun.later
 
-pub returns-in_err-made-clause-causes : goal.returns-in_err-made-clause-causes
-returns-in_err-made-clause-causes c = causes_same (bare_count c.args.self.now.nodes) (bare_count c.begin.new.self.nodes) c.args.tally.now c.args.tally.now (ap bare_count c.in_err-made.ensures.begun.nodes) (no_less_same c.args.tally.now)
+pub returns-in_err-decisions-clause-causes : goal.returns-in_err-decisions-clause-causes
+returns-in_err-decisions-clause-causes c = causes_same (bare_count c.args.self.now.nodes) (bare_count c.begin.new.self.nodes) c.args.tally.now c.args.tally.now (ap bare_count c.in_err-decisions.ensures.begun.nodes) (no_less_same c.args.tally.now)
 
-pub returns-in_err-made-clause-bare_end : goal.returns-in_err-made-clause-bare_end
-returns-in_err-made-clause-bare_end c = λ bare. absurd (runs c.begin.new.self.phase bare c.in_err-made.ensures.begun.running.running)
+pub returns-in_err-decisions-clause-bare_end : goal.returns-in_err-decisions-clause-bare_end
+returns-in_err-decisions-clause-bare_end c = λ bare. absurd (runs c.begin.new.self.phase bare c.in_err-decisions.ensures.begun.running.running)
   where
     runs : (f : Phase) → f ≡ Refused true → f ≡ Running → ⊥
     runs f a b = cc
 
-pub returns-in_err-made-clause-one : goal.returns-in_err-made-clause-one
-returns-in_err-made-clause-one c = λ refuted none. one_of c.args.mill.now c.begin.new.self c.in_err-made.ensures.begun.running (c.in_err-made.ensures.begun.nodes ∙ none)
+pub returns-in_err-decisions-clause-one : goal.returns-in_err-decisions-clause-one
+returns-in_err-decisions-clause-one c = λ refuted none. one_of c.args.mill.now c.begin.new.self c.in_err-decisions.ensures.begun.running (c.in_err-decisions.ensures.begun.nodes ∙ none)
 
 -- ---- the loop
 
 pub nodes-init : goal.nodes-init
 nodes-init c = record {
-  tree = c.in_ok-made.ensures.begun.running;
-  room = c.in_ok-made.ensures.begun.room;
-  later = c.in_ok-made.ensures.begun.later;
+  tree = c.in_ok-decisions.ensures.begun.running;
+  room = c.in_ok-decisions.ensures.begun.room;
+  later = c.in_ok-decisions.ensures.begun.later;
   place = record {
     sizes = c.requires.sizes;
     pool = c.requires.pool;
-    orders = ap (λ d. d.orders) c.in_ok-made.ensures.told;
-    yard = ap (λ d. d.yard) c.in_ok-made.ensures.told;
-    list = ap (λ d. d.list) c.in_ok-made.ensures.told;
+    orders = ap (λ d. d.orders) c.in_ok-decisions.ensures.told;
+    yard = ap (λ d. d.yard) c.in_ok-decisions.ensures.told;
+    list = ap (λ d. d.list) c.in_ok-decisions.ensures.told;
   };
-  extent = c.in_ok-made.ensures.extent;
-  limit = c.in_ok-made.ensures.begun.counts.limit;
-  counts = c.in_ok-made.ensures.begun.counts;
+  extent = c.in_ok-decisions.ensures.extent;
+  limit = c.in_ok-decisions.ensures.begun.counts.limit;
+  counts = c.in_ok-decisions.ensures.begun.counts;
   counters = no_less_same c.args.tally.now;
-  causes = causes_same (bare_count c.args.self.now.nodes) (bare_count c.begin.new.self.nodes) c.args.tally.now c.args.tally.now (ap bare_count c.in_ok-made.ensures.begun.nodes) (no_less_same c.args.tally.now);
-  plain = λ refuted none. record { limits = c.in_ok-made.ensures.begun.plain refuted; none = c.in_ok-made.ensures.begun.nodes ∙ none };
+  causes = causes_same (bare_count c.args.self.now.nodes) (bare_count c.begin.new.self.nodes) c.args.tally.now c.args.tally.now (ap bare_count c.in_ok-decisions.ensures.begun.nodes) (no_less_same c.args.tally.now);
+  plain = λ refuted none. record { limits = c.in_ok-decisions.ensures.begun.plain refuted; none = c.in_ok-decisions.ensures.begun.nodes ∙ none };
 }
 
 pub nodes-preserved : goal.nodes-preserved
