@@ -265,7 +265,14 @@ fn turns_and_solves_are_counted(rt: HostRuntime) -> Result<(), Fail> {
     let pairs = worked(rt.alloc(), THREE_PAIRS, true)?;
     assert!(rt; pairs.turns >= 3 && pairs.solves >= 1);
     let heavy = worked(rt.alloc(), HEAVY, false)?;
-    assert_eq!(rt; heavy, Work { opened: 1, turns: 1, solves: 0 });
+    assert_eq!(rt;
+        heavy,
+        Work {
+            opened: 1,
+            turns: 1,
+            solves: 0
+        }
+    );
     Ok(())
 }
 
@@ -273,6 +280,10 @@ fn turns_and_solves_are_counted(rt: HostRuntime) -> Result<(), Fail> {
 fn worked(alloc: Global, orders: &str, starts: bool) -> Result<Work, AllocError> {
     match mill_of(alloc, orders, "0", 2) {
         Some(mill) => Ok(asked(alloc, &mill, starts, 100)?.1),
-        None => Ok(Work { opened: 0, turns: 0, solves: 0 }),
+        None => Ok(Work {
+            opened: 0,
+            turns: 0,
+            solves: 0,
+        }),
     }
 }
