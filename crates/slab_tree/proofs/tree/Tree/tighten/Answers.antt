@@ -4,7 +4,7 @@ use Rattle.slab_tree.specs.declared.node.Node.{Node}
 use Rattle.slab_tree.specs.Rewriting.{IsRewriting, IsRewritten, IsWalk, IsTallied}
 use Rattle.slab_tree.specs.Searches.{Search, IsFinished, HasLimitsBelow, bare_count}
 use Rattle.slab_tree.specs.Counts.{Counts}
-use Rattle.slab_tree.specs.Tightening.{IsSameTree, HasRoom, MayCountBare, AreBareCounted}
+use Rattle.slab_tree.specs.Tightening.{IsSameTree, HasRoom, MayCountBare, AreBareCounted, covered_count}
 use Rattle.slab_tree.specs.declared.tree.Phase.TheVariants.{Running}
 use Rattle.slab_tree.proofs.BareMarks.{tallied_trans, kept_trans}
 use Rattle.slab_tree.proofs.Rewriting.{begins_anew, walks_on, ends_anew, same_trans, same_limits, tightened}
