@@ -27,7 +27,7 @@ use Rattle.slab_sweep.specs.Made.{IsMade, IsFound, IsNothing, IsCut}
 
 pub made_of : (m : Mill) (old new : Search) (s : MarkedSteps) → IsFinished m old → IsTightened m old new → ((limits : Limits) → IsWhole m (ShowsCoverUnlessBare m limits) limits new.nodes → IsTightRefutation m limits s) → IsMade m (tree_opening old) (limits_of old) s
 made_of m old new s done tight shows =
-    let same : limits_of new ≡ limits_of old = λ i. record { loss = tight.loss i; count = tight.count i } in
+    let same : limits_of new ≡ limits_of old = λ i. record { loss = tight.same.loss i; count = tight.same.count i } in
     record {
       tight = shows (limits_of old) (subst (λ (l : Limits). IsWhole m (ShowsCoverUnlessBare m l) l new.nodes) same tight.tight.whole);
       falls = done.limits.falls;

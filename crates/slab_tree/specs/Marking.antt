@@ -31,7 +31,7 @@ HoldsCover m limits (Spread shown) decisions = IsShown m limits decisions shown
 HoldsCover m limits Bare decisions = Unit {0}
 HoldsCover m limits Plain decisions = HasCover m limits decisions
 
--- the mark shows such a cover, or is bare
+-- the mark shows a cover within the limits, or is bare
 abbrev pub ShowsCoverUnlessBare : Mill → Limits → MarkRule
 ShowsCoverUnlessBare m limits (Spread shown) decisions = IsShown m limits decisions shown
 ShowsCoverUnlessBare m limits Bare decisions = Unit {0}

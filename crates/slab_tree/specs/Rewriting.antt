@@ -20,7 +20,7 @@ use Rattle.slab_tree.specs.Counts.{Counts, noted_bare}
 use Rattle.slab_tree.specs.Marking.{MarkRule, HoldsCover, ShowsCoverUnlessBare, is_bare}
 use Rattle.slab_tree.specs.Searches.{Search, limits_of, opening_of, bare_count}
 use Rattle.slab_tree.specs.Standing.{IsDone, IsWhole, Stands, nodes_of}
-use Rattle.slab_tree.specs.Tightening.{covered_count}
+use Rattle.slab_tree.specs.Tightening.{IsSameTree, covered_count}
 
 -- the branches for no that wait on the path come next, one after another
 pub record BranchesComeNext (m : Mill) (Rule : MarkRule) (limits : Limits) (ask : Ask) (path : List Decision) (Later : List Node → Type 0) (nodes : List Node) : Type 0 where
@@ -58,13 +58,6 @@ pub record IsRewritten (m : Mill) (t : Search) (rest : List Node) : Type 0 where
 abbrev pub IsWalk : Mill → Search → List Node → Type 0
 IsWalk m t rest = IsRewriting m t rest ⊎ IsRewritten m t rest
 
--- the question stays
-pub record IsSameTree (old new : Search) : Type 0 where
-  pub count : new.count ≡ old.count
-  pub opening : new.opening ≡ old.opening
-  pub loss : new.loss ≡ old.loss
-  pub best : new.best ≡ old.best
-
 -- a step of the walk: the node that was read is done with
 pub record MovesOn (m : Mill) (old new : Search) (node : Node) (before after : List Node) : Type 0 where
   pub same : IsSameTree old new
@@ -88,13 +81,10 @@ IsRenewed m limits path before after (Split mark) = ShowsCoverUnlessBare m limit
 
 -- ---- the counts
 
--- each split that is left, and that isn't counted as bare, may still be
-abbrev pub HasRoom : Counts → List Node → Type 0
-HasRoom n rest = (last_count ≤ n.opened) ⊎ (n.bare + covered_count rest ≤ n.opened)
-
 -- What was counted while nodes were read from `before` to `after`, and written from `first` to `last`.
 pub record IsTallied (old new : Counts) (first last before after : List Node) : Type 0 where
   pub no_more : new.bare + bare_count first ≤ old.bare + bare_count last
+  pub once : new.bare + covered_count after ≤ old.bare + covered_count before
   pub counted : (bare_count last + bare_count after + old.bare ≤ bare_count first + bare_count before + new.bare) ⊎ (last_count ≤ new.bare)
 
 -- what the counts do at each step

@@ -17,6 +17,7 @@ use Rattle.slab_tree.specs.declared.tree.Phase.{Phase}
 use Rattle.slab_tree.specs.declared.tree.Phase.TheVariants.{New, Running, Done, Refused}
 use Rattle.slab_tree.specs.declared.tree.Ended.{Ended}
 use Rattle.slab_tree.specs.declared.tree.Ended.TheVariants.{Least, NoPlan, Budget}
+use Rattle.slab_tree.specs.declared.workplace.Workplace.{Workplace}
 use Rattle.slab_tree.specs.Marking.{is_bare}
 use Rattle.slab_tree.specs.Searches.{Search, IsLater, IsRunning, IsSearch, IsFinished, IsRefused, AreRaisedBy, bare_count, limits_of}
 
@@ -53,13 +54,18 @@ IsFinish (Refused bare) best old new e = (e ≡ Budget) × (new ≡ old)
 IsFinish Done None old new e = (e ≡ NoPlan) × (new ≡ old)
 IsFinish Done (Some p) old new e = (e ≡ Least p) × (new ≡ record old { best = None })
 
--- what a step stands on: the sizes and the pool are those of the mill, and the decisions those above the next node
+-- what a walk through an old tree stands on: the sizes and the pool are those of the mill, and the decisions those above the next node
 pub record IsWorkplace (m : Mill) (listed : List ℕ) (columns : Pool) (decisions : Decisions) (path : List Decision) : Type 0 where
   pub sizes : listed ≡ m.sizes
   pub pool : columns.mill ≡ m
   pub orders : decisions.orders ≡ length m.orders
   pub yard : decisions.yard ≡ length m.yard
   pub list : decisions.list ≡ path
+
+-- what a step stands on: the pool is that of the mill, and the decisions are those above the next node
+pub record IsPlaceAt (place : Workplace) (columns : Pool) (path : List Decision) : Type 0 where
+  pub pool : columns.mill ≡ place.mill.now
+  pub list : place.decisions.list ≡ path
 
 -- ---- the measure
 

@@ -1,6 +1,6 @@
 //! The search: depth first, yes before no, under limits that fall.
 
-ghost use Rattle.std.specs.Prelude.{◌≡◌, ◌≤◌, ◌<◌, ◌↔◌, IfOk, IfSome, OnOk, OnErr, IsSome, IsTrue, [], true, length};
+ghost use Rattle.std.specs.Prelude.{◌≡◌, ◌≤◌, ◌<◌, ◌↔◌, IfOk, IfSome, OnOk, OnErr, IsSome, IsTrue, [], true};
 ghost use Rattle.mill_model.specs.Decisions.{IsAskAmong};
 ghost use Rattle.mill_model.specs.Paths.{next_branch as branch_after};
 ghost use Rattle.mill_model.specs.Plain.{IsPlainlyRefuted};
@@ -14,7 +14,7 @@ ghost use Rattle.slab_repack.specs.FoundPlans.{IsFoundPlan};
 ghost use Rattle.slab_tree.specs.Marking.{is_bare};
 ghost use Rattle.slab_tree.specs.Standing.{IsOpenPath};
 ghost use Rattle.slab_tree.specs.Searches.{HasBareEnd, IsReady, IsRunning, IsEnded, IsAnswer, IsLater, IsSameQuestion, AreRaisedBy, limits_of, bare_count};
-ghost use Rattle.slab_tree.specs.Stepping.{HasBegun, MayHaveLowered, IsClosed, IsClosedAtOnce, IsSplitUnder, IsStepped, IsWorkplace};
+ghost use Rattle.slab_tree.specs.Stepping.{HasBegun, MayHaveLowered, IsClosed, IsClosedAtOnce, IsSplitUnder, IsStepped, IsPlaceAt};
 
 use super::{Ended, Tree};
 use crate::Nodes;
@@ -22,8 +22,8 @@ use crate::bounding::bounded_turn;
 use crate::dives::dive;
 use crate::guide::Guide;
 use crate::path::decide;
-use crate::rounding::rounded;
 use crate::showing::shown_or_plain;
+use crate::workplace::Workplace;
 use loss_table::LossTable;
 use mill_model::{Ask, Mark, Mill, Plan, Prices};
 use slab_columns::Pool;
@@ -70,48 +70,38 @@ impl Tree {
         ensures bare_end { HasBareEnd self.new → HasCause tally.old tally.new }
         ensures mill { pool.new.mill ≡ mill.now }
     {
-        let (mut decisions, mut guide) = self.begin(alloc, mill, table, nodes)?;
+        let (mut place, mut guide) = self.begin(alloc, mill, table, nodes)?;
         'nodes: loop {
-            if !self.step(
-                alloc,
-                mill,
-                table,
-                &mut decisions,
-                &mut guide,
-                pool,
-                nodes,
-                tally,
-            )? {
+            if !self.step(alloc, &mut place, &mut guide, pool, nodes, tally)? {
                 return Ok(self.finish());
             }
         }
     }
 
-    // Takes the root's node, and a plan that a search finds before the first turn. It answers the decisions above the next node,
-    // and what guides the run.
-    fn begin(
+    // Takes the root's node, and a plan that a search finds before the first turn. It answers the workplace, told of the decisions
+    // above the next node, and what guides the run.
+    fn begin<'a>(
         &mut self,
         alloc: Global,
-        mill: &Mill,
-        table: &LossTable,
+        mill: &'a Mill,
+        table: &'a LossTable,
         nodes: &mut Nodes,
-    ) -> Result<(Decisions, Guide), AllocError>
+    ) -> Result<(Workplace<'a>, Guide), AllocError>
         requires tree { IsReady mill.now self.old }
         requires room { self.old.opened ≤ nodes.old.limit }
+        requires sizes { table.now ≡ mill.now.sizes }
         ensures begun { HasBegun mill.now self.old self.new nodes.old nodes.new }
-        ensures told { IfOk result (λ made. made.0 ≡ record { orders = length mill.now.orders; yard = length mill.now.yard; list = self.new.path }) }
-        ensures extent { IfOk result (λ made. made.1 ≡ extent_of made.0) }
+        ensures mill { IfOk result (λ made. made.0.mill.now ≡ mill.now) }
+        ensures told { IfOk result (λ made. made.0.decisions.list ≡ self.new.path) }
     {
         let _counted = nodes.opened();
         let _limit = nodes.limit();
         self.start(nodes);
-        let orders = mill.orders().len() as u16;
-        let yard = mill.yard().len() as u16;
-        let mut guide = Guide::new(alloc, mill, table, orders, yard)?;
-        let mut decisions = Decisions::new(alloc, orders, yard)?;
+        let mut guide = Guide::new(alloc, mill, table)?;
+        let mut place = Workplace::new(alloc, mill, table)?;
         self.seek_first(alloc, mill, &mut guide)?;
-        self.tell(&mut decisions);
-        Ok((decisions, guide))
+        self.tell(&mut place.decisions);
+        Ok((place, guide))
     }
 
     // Takes a plan within the limits that a search finds near the best one, if it finds one.
@@ -123,7 +113,6 @@ impl Tree {
     ) -> Result<(), AllocError>
         requires { IsRunning mill.now self.old }
         ensures lowered { MayHaveLowered mill.now self.old self.new }
-        ensures extent { guide.new ≡ guide.old }
     {
         let _orders = mill.orders();
         let limits = self.limits();
@@ -140,24 +129,21 @@ impl Tree {
     fn step(
         &mut self,
         alloc: Global,
-        mill: &Mill,
-        table: &LossTable,
-        decisions: &mut Decisions,
+        place: &mut Workplace<'_>,
         guide: &mut Guide,
         pool: &mut Pool,
         nodes: &mut Nodes,
         tally: &mut Tally,
     ) -> Result<bool, AllocError>
-        requires tree { IsRunning mill.now self.old }
+        requires tree { IsRunning place.old.mill.now self.old }
         requires room { self.old.opened ≤ nodes.old.limit }
-        requires place { IsWorkplace mill.now table.now pool.old decisions.old self.old.path }
-        requires extent { guide.old ≡ extent_of decisions.old }
-        ensures ok { IfOk result (IsStepped mill.now nodes.old.limit self.old self.new) }
+        requires place { IsPlaceAt place.old pool.old self.old.path }
+        ensures ok { IfOk result (IsStepped place.old.mill.now nodes.old.limit self.old self.new) }
         ensures err { OnErr result (self.new ≡ self.old) }
-        ensures plain { IsPlainlyRefuted mill.now (limits_of self.old) → self.old.path ≡ [] → IfOk result (IsClosedAtOnce self.old self.new) }
-        ensures place { IfOk result (λ on. on ≡ true → IsWorkplace mill.now table.now pool.new decisions.new self.new.path) }
-        ensures extent { IfOk result (λ on. on ≡ true → guide.new ≡ extent_of decisions.new) }
-        ensures mill { pool.new.mill ≡ mill.now }
+        ensures plain { IsPlainlyRefuted place.old.mill.now (limits_of self.old) → self.old.path ≡ [] → IfOk result (IsClosedAtOnce self.old self.new) }
+        ensures place { IfOk result (λ on. on ≡ true → IsPlaceAt place.new pool.new self.new.path) }
+        ensures pool { pool.new.mill ≡ place.old.mill.now }
+        ensures mill { place.new.mill.now ≡ place.old.mill.now }
         ensures counters { AreNoLess tally.old tally.new }
         ensures causes { HaveCauses (bare_count self.old.nodes) tally.old (bare_count self.new.nodes) tally.new }
         ensures bare_end { HasBareEnd self.new → HasCause tally.old tally.new }
@@ -165,18 +151,16 @@ impl Tree {
     {
         let _counted = nodes.opened();
         let limits = self.limits();
-        match bounded_turn(alloc, mill, table, decisions, guide, limits, pool, tally)? {
-            Turned::Refuted(prices) => self.close_next(prices, decisions, guide),
+        match bounded_turn(alloc, place, guide, limits, pool, tally)? {
+            Turned::Refuted(prices) => self.close_next(prices, &mut place.decisions, guide),
             Turned::InBox(plan) => {
-                self.lower(mill, plan);
+                self.lower(place.mill, plan);
                 Ok(true)
             }
             Turned::Spread(cover, first) => {
-                self.split_next(
-                    alloc, mill, table, &cover, first, decisions, guide, pool, nodes, tally,
-                )
+                self.split_next(alloc, place, &cover, first, guide, pool, nodes, tally)
             }
-            Turned::Bare(ask) => self.go_down(ask, Mark::Bare, decisions, guide, nodes),
+            Turned::Bare(ask) => self.go_down(ask, Mark::Bare, &mut place.decisions, guide, nodes),
         }
     }
 
@@ -192,7 +176,7 @@ impl Tree {
         ensures on { IfOk result (λ on. IsTrue on ↔ IsSome (branch_after self.old.path)) }
         ensures err { OnErr result (self.new ≡ self.old) }
         ensures told { IfOk result (λ on. on ≡ true → decisions.new ≡ record decisions.old { list = self.new.path }) }
-        ensures extent { guide.new ≡ guide.old }
+        ensures extent { extent_of decisions.new ≡ extent_of decisions.old }
     {
         guide.close(&self.path);
         let on = self.turn_back(prices, decisions)?;
@@ -204,79 +188,69 @@ impl Tree {
     fn split_next(
         &mut self,
         alloc: Global,
-        mill: &Mill,
-        table: &LossTable,
+        place: &mut Workplace<'_>,
         cover: &Cover,
         first: Ask,
-        decisions: &mut Decisions,
         guide: &mut Guide,
         pool: &mut Pool,
         nodes: &mut Nodes,
         tally: &mut Tally,
     ) -> Result<bool, AllocError>
-        requires tree { IsRunning mill.now self.old }
+        requires tree { IsRunning place.old.mill.now self.old }
         requires room { self.old.opened ≤ nodes.old.limit }
-        requires place { IsWorkplace mill.now table.now pool.old decisions.old self.old.path }
-        requires extent { guide.old ≡ extent_of decisions.old }
-        requires first { IsOpenAsk mill.now self.old.path first }
-        requires cover { IsPoolCover mill.now (limits_of self.old) self.old.path pool.old.columns cover.now }
-        ensures ok { IfOk result (IsStepped mill.now nodes.old.limit self.old self.new) }
+        requires place { IsPlaceAt place.old pool.old self.old.path }
+        requires first { IsOpenAsk place.old.mill.now self.old.path first }
+        requires cover { IsPoolCover place.old.mill.now (limits_of self.old) self.old.path pool.old.columns cover.now }
+        ensures ok { IfOk result (IsStepped place.old.mill.now nodes.old.limit self.old self.new) }
         ensures err { OnErr result (self.new ≡ self.old) }
-        ensures place { IfOk result (λ on. on ≡ true → IsWorkplace mill.now table.now pool.new decisions.new self.new.path) }
-        ensures extent { IfOk result (λ on. on ≡ true → guide.new ≡ extent_of decisions.new) }
-        ensures mill { pool.new.mill ≡ mill.now }
+        ensures place { IfOk result (λ on. on ≡ true → IsPlaceAt place.new pool.new self.new.path) }
+        ensures pool { pool.new.mill ≡ place.old.mill.now }
+        ensures mill { place.new.mill.now ≡ place.old.mill.now }
         ensures counters { AreNoLess tally.old tally.new }
         ensures bares { bare_count self.new.nodes ≡ bare_count self.old.nodes }
         ensures end { HasBareEnd self.new → ⊥ }
         ensures counts { AreRaisedBy nodes.old nodes.new self.old self.new }
     {
         let _counted = nodes.opened();
-        let ask = guide.choose(pool, cover, decisions, first)?;
+        let ask = guide.choose(place, pool, cover, first)?;
         let keeps = guide.keeps(cover.list().len());
         let mark = shown_or_plain(alloc, pool, cover, keeps, tally)?;
-        match self.seek(alloc, mill, table, cover, decisions, guide, pool, tally)? {
+        match self.seek(alloc, place, cover, guide, pool, tally)? {
             Some(plan) => {
-                self.lower(mill, plan);
+                self.lower(place.mill, plan);
                 Ok(true)
             }
-            None => self.go_down(ask, mark, decisions, guide, nodes),
+            None => self.go_down(ask, mark, &mut place.decisions, guide, nodes),
         }
     }
 
-    // Looks for a plan within the limits from a cover: by rounding it, and by dives where they are due.
+    // Looks for a plan within the limits from a cover: rounded or near that, and by dives where they are due.
     fn seek(
         &self,
         alloc: Global,
-        mill: &Mill,
-        table: &LossTable,
+        place: &mut Workplace<'_>,
         cover: &Cover,
-        decisions: &mut Decisions,
         guide: &mut Guide,
         pool: &mut Pool,
         tally: &mut Tally,
     ) -> Result<Option<Plan>, AllocError>
-        requires tree { IsRunning mill.now self.now }
-        requires place { IsWorkplace mill.now table.now pool.old decisions.old self.now.path }
+        requires tree { IsRunning place.old.mill.now self.now }
+        requires place { IsPlaceAt place.old pool.old self.now.path }
         requires cover { AreThere pool.old.columns cover.now }
-        ensures found { IfOk result (λ found. IfSome found (IsFoundPlan mill.now (limits_of self.now))) }
-        ensures place { OnOk result (IsWorkplace mill.now table.now pool.new decisions.new self.now.path) }
-        ensures extent { guide.new ≡ guide.old }
-        ensures mill { pool.new.mill ≡ mill.now }
+        ensures found { IfOk result (λ found. IfSome found (IsFoundPlan place.old.mill.now (limits_of self.now))) }
+        ensures place { OnOk result (IsPlaceAt place.new pool.new self.now.path) }
+        ensures pool { pool.new.mill ≡ place.old.mill.now }
+        ensures mill { place.new.mill.now ≡ place.old.mill.now }
         ensures counters { AreNoLess tally.old tally.new }
     {
         let limits = self.limits();
-        if let Some(plan) = rounded(alloc, mill, table, pool, cover, limits)? {
-            return Ok(Some(plan));
-        }
-        if let Some(plan) = guide.seek(alloc, mill, pool, cover, limits, self.nodes.len())? {
+        if let Some(plan) = guide.seek(alloc, place.mill, pool, cover, limits, self.nodes.len())? {
             return Ok(Some(plan));
         }
         for _ in 0..guide.dives_due(self.nodes.len()) {
             let aims = guide.dive_limits(limits);
-            let found = dive(
-                alloc, mill, table, decisions, &self.path, cover, aims, pool, tally,
-            )?;
-            self.tell(decisions);
+            let found = dive(alloc, place, &self.path, cover, aims, pool, tally)?;
+            self.tell(&mut place.decisions);
             if found.is_some() {
                 return Ok(found);
             }
@@ -300,7 +274,7 @@ impl Tree {
         ensures ok { IfOk result (IsSplitUnder ask mark nodes.old.limit self.old self.new) }
         ensures err { OnErr result (self.new ≡ self.old) }
         ensures told { IfOk result (λ on. on ≡ true → decisions.new ≡ record decisions.old { list = self.new.path }) }
-        ensures extent { guide.new ≡ guide.old }
+        ensures extent { extent_of decisions.new ≡ extent_of decisions.old }
         ensures counted { IfOk result (IsCountedSplit (is_bare mark) nodes.old nodes.new) }
         ensures uncounted { OnErr result (nodes.new ≡ nodes.old) }
     {

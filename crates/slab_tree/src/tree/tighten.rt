@@ -5,10 +5,10 @@ ghost use Rattle.mill_model.specs.Decisions.{IsAskAmong};
 ghost use Rattle.slab_relax.specs.Tallies.{AreNoLess, HaveCauses};
 ghost use Rattle.slab_node.specs.Turns.{IsUndecided};
 ghost use Rattle.slab_tree.specs.Marking.{is_bare};
-ghost use Rattle.slab_tree.specs.Rewriting.{StillShows, HasNoPlanAt, IsRenewed, IsRewriting, MovesOn, HasRoom, IsTallied, AreKept, IsNoted};
+ghost use Rattle.slab_tree.specs.Rewriting.{StillShows, HasNoPlanAt, IsRenewed, IsRewriting, MovesOn, IsTallied, AreKept, IsNoted};
 ghost use Rattle.slab_tree.specs.Searches.{HasLimitsBelow, IsFinished, limits_of, bare_count};
 ghost use Rattle.slab_tree.specs.Stepping.{IsBranched, IsWorkplace};
-ghost use Rattle.slab_tree.specs.Tightening.{IsTightened, MayCountBare, AreBareCounted};
+ghost use Rattle.slab_tree.specs.Tightening.{IsTightened, HasRoom, MayCountBare, AreBareCounted};
 
 use super::{Phase, Tree};
 use crate::keeping::is_loss_within;

@@ -12,7 +12,7 @@ seek_first-requires c =
 
 pub tell-requires : goal.tell-requires
 tell-requires c =
-    rw (ap (λ d. d.orders) c.in_ok-decisions.ensures, ap (λ d. d.yard) c.in_ok-decisions.ensures, c.orders.ensures.value, c.yard.ensures.value)
+    rw (c.in_ok-place.place.extent.orders, c.in_ok-place.place.extent.yard, c.in_ok-place.ensures.mill)
     (path_open c.args.mill.now (HoldsCover c.args.mill.now (opening_of c.seek_first.new.self)) (limits_of c.seek_first.new.self) c.seek_first.new.self.path c.seek_first.new.self.nodes c.seek_first.ensures.lowered.running.stands)
 
 -- ---- what has begun
@@ -22,8 +22,8 @@ returns-in_err-guide-clause-begun c =
     begun_at c.args.mill.now c.args.self.now c.start.new.self c.args.nodes.now c.start.new.nodes
     (has_root c.args.mill.now c.args.self.now c.start.new.self c.args.nodes.now c.start.new.nodes c.limit-limit.ensures.some c.requires.room c.opened-counted.ensures.last c.opened-counted.ensures.bare c.requires.tree c.start.ensures)
 
-pub returns-in_err-decisions-clause-begun : goal.returns-in_err-decisions-clause-begun
-returns-in_err-decisions-clause-begun c =
+pub returns-in_err-place-clause-begun : goal.returns-in_err-place-clause-begun
+returns-in_err-place-clause-begun c =
     begun_at c.args.mill.now c.args.self.now c.start.new.self c.args.nodes.now c.start.new.nodes
     (has_root c.args.mill.now c.args.self.now c.start.new.self c.args.nodes.now c.start.new.nodes c.limit-limit.ensures.some c.requires.room c.opened-counted.ensures.last c.opened-counted.ensures.bare c.requires.tree c.start.ensures)
 

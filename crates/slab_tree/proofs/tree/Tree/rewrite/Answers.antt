@@ -9,10 +9,11 @@ use Rattle.slab_tree.specs.declared.node.Node.{Node}
 use Rattle.slab_tree.specs.declared.node.Node.TheVariants.{Closed, Branched}
 use Rattle.slab_tree.specs.declared.tree.tighten.Renewed.{Renewed}
 use Rattle.slab_tree.specs.Marking.{ShowsCoverUnlessBare, is_bare}
-use Rattle.slab_tree.specs.Rewriting.{IsRenewed, IsRewriting, MovesOn, HasRoom, IsTallied, IsNoted, StillShows}
+use Rattle.slab_tree.specs.Rewriting.{IsRenewed, IsRewriting, MovesOn, IsTallied, IsNoted, StillShows}
 use Rattle.slab_relax.specs.Tallies.{HasCause}
 use Rattle.slab_tree.specs.Searches.{Search, limits_of}
 use Rattle.slab_tree.specs.Stepping.{IsBranched}
+use Rattle.slab_tree.specs.Tightening.{HasRoom}
 use Rattle.slab_tree.proofs.BareMarks.{leaf_tallied, refuted_tallied, refuted_room, kept_tallied, kept_causes}
 use Rattle.slab_tree.proofs.Gains.{close_causes}
 use Rattle.slab_tree.proofs.Rewriting.{leaf_moves, refuted_moves, kept_moves, split_asks, marked_at, no_plan_left}
