@@ -216,8 +216,8 @@ impl Tree {
         let keeps = guide.keeps(cover.list().len());
         let mark = shown_or_plain(alloc, pool, cover, keeps, tally)?;
         match self.seek(alloc, place, cover, guide, pool, tally)? {
-            Some(found) => {
-                self.lower(place.mill, found);
+            Some(plan) => {
+                self.lower(place.mill, plan);
                 Ok(true)
             }
             None => self.go_down(ask, mark, &mut place.decisions, guide, nodes),

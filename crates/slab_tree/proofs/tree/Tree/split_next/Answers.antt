@@ -22,10 +22,10 @@ use Rattle.slab_tree.proofs.tree.Tree.split_next.Goals as goal
 
 pub returns-in-Some-clause-ok : goal.returns-in-Some-clause-ok
 returns-in-Some-clause-ok c =
-    let found : IsFoundPlan c.args.place.now.mill.now (limits_of c.args.self.now) c.in-Some.found = subst (λ (p : Option Plan). IfSome p (IsFoundPlan c.args.place.now.mill.now (limits_of c.args.self.now))) c.in-Some.is c.in_ok-found.ensures.found in
-    let small : (sums_of c.args.place.now.mill.now c.in-Some.found).loss < 2 ^ 32 = subst (λ (m : Mill). (sums_of m c.in-Some.found).loss < 2 ^ 32) c.in_ok-found.ensures.mill c.lower.ensures.small in
-    let lowered : c.lower.new.self ≡ record c.args.self.now { loss = loss_below c.args.place.now.mill.now c.in-Some.found; best = Some c.in-Some.found } = subst (λ (m : Mill). c.lower.new.self ≡ record c.args.self.now { loss = loss_below m c.in-Some.found; best = Some c.in-Some.found }) c.in_ok-found.ensures.mill c.lower.ensures.tree in
-    lower_step c.args.place.now.mill.now c.args.nodes.now.limit c.args.self.now c.lower.new.self c.requires.tree c.requires.room c.in-Some.found found small lowered
+    let found : IsFoundPlan c.args.place.now.mill.now (limits_of c.args.self.now) c.in-Some.plan = subst (λ (p : Option Plan). IfSome p (IsFoundPlan c.args.place.now.mill.now (limits_of c.args.self.now))) c.in-Some.is c.in_ok-plan.ensures.found in
+    let small : (sums_of c.args.place.now.mill.now c.in-Some.plan).loss < 2 ^ 32 = subst (λ (m : Mill). (sums_of m c.in-Some.plan).loss < 2 ^ 32) c.in_ok-plan.ensures.mill c.lower.ensures.small in
+    let lowered : c.lower.new.self ≡ record c.args.self.now { loss = loss_below c.args.place.now.mill.now c.in-Some.plan; best = Some c.in-Some.plan } = subst (λ (m : Mill). c.lower.new.self ≡ record c.args.self.now { loss = loss_below m c.in-Some.plan; best = Some c.in-Some.plan }) c.in_ok-plan.ensures.mill c.lower.ensures.tree in
+    lower_step c.args.place.now.mill.now c.args.nodes.now.limit c.args.self.now c.lower.new.self c.requires.tree c.requires.room c.in-Some.plan found small lowered
 
 -- ---- the split
 
