@@ -4,11 +4,14 @@ use Rattle.std.specs.FinMap.{get}
 use Rattle.slab_desk.specs.Desk.{Told, Files, Steps, WhereTold, ChangesLeft, Says, WithPrefix}
 use Rattle.slab_desk.proofs.Steps.{steps_join, steps_weaker}
 use Rattle.mill_model.specs.Mill.{Mill}
-use Rattle.front_check.specs.Texts.{memory_text}
-use Rattle.front_check.specs.Words.{CheckWords, Parsed}
+use Rattle.run_words.specs.Words.{Parsed}
+use Rattle.run_words.specs.Texts.{memory_text}
+use Rattle.run_words.specs.Files.{HasMill}
+use Rattle.run_words.proofs.Telling.{always, joined}
+use Rattle.front_check.specs.Words.{CheckWords}
 use Rattle.front_check.specs.Outcomes.{Owing, SaysOnly, BeginsToSay, Ran}
 use Rattle.front_check.specs.Owed.{OwesOfWords, OwesOfCheck, IsVerdictStatus, StopsSoon}
-use Rattle.front_check.specs.Endings.{Finishes, HasMill, ReadsToBad, LeavesRest}
+use Rattle.front_check.specs.Endings.{Finishes, ReadsToBad, LeavesRest}
 
 -- ---- reading, and then saying
 
@@ -21,16 +24,6 @@ begun_after text x y z p (front, back, whole, q) = (front, back, whole, said_aft
 -- nothing was said where files were only read
 read_only : (x y : Told) → ChangesLeft x y → SaysOnly [] x y
 read_only x y p = p ∙ ap (λ (s : List ℕ). record x { left = y.left; said = s }) (sym (append-nil x.said))
-
--- a step that reads and a step that says, joined
-joined : {Q R : Told → Told → Type 0} (W : Files → Type 0) (a b c : Option Told)
-    → WhereTold a (λ t. W t.files) → ((x y z : Told) → W x.files → ChangesLeft x y → Q y z → R x z) → Steps a b ChangesLeft → Steps b c Q → Steps a c R
-joined W None None None w join p q = tt
-joined W None None (Some z) w join p q = q
-joined W None (Some y) c w join p q = absurd p
-joined W (Some x) None c w join p q = absurd p
-joined W (Some x) (Some y) None w join p q = q
-joined W (Some x) (Some y) (Some z) w join p q = join x y z w p q
 
 -- ---- ends
 
@@ -50,14 +43,6 @@ ends_owed owes status result text a b c (not5, not6) is read end = elim end.stat
     owed = λ not _. absurd (not e);
   }) read (end.short e)
 ]
-
--- what holds of all that a desk may tell
-pub always_told : (P : Told → Type 0) (a : Option Told) → ((t : Told) → P t) → WhereTold a P
-always_told P None f = tt
-always_told P (Some x) f = f x
-
-always : (a : Option Told) → WhereTold a (λ _. Unit {0})
-always a = always_told (λ _. Unit {0}) a (λ _. tt)
 
 -- the text for want of memory
 pub ends_memory : (owes : Files → Owing) (result : ℕ) (a b c : Option Told)

@@ -17,12 +17,15 @@ use Rattle.mill_read.proofs.YardGrammar.{yard_file_is}
 use Rattle.cert_rules.specs.Verdicts.{Verdict, IsVerdict}
 use Rattle.cert_rules.specs.Verdicts.Verdict.{Front, NoPlan, CutOff, Bad}
 use Rattle.cert_rules.proofs.Verdicts.{one_verdict}
+use Rattle.run_words.specs.Words.{Parsed, ◌>>=◌, or_at, word_at, given_at, file_named, number_named, default_colours}
+use Rattle.run_words.specs.Texts.{usage_text}
+use Rattle.run_words.specs.Files.{most_bytes, with_colours}
 use Rattle.front_check.specs.declared.texts.Source.{Source}
 use Rattle.front_check.specs.declared.texts.Source.TheVariants.{Orders, Yard as YardSource}
-use Rattle.front_check.specs.Words.{CheckWords, Parsed, Options, ◌>>=◌, or_at, word_at, given_at, file_named, number_named, with_option, options_from, no_options, mill_words, check_of, check_words, default_colours}
-use Rattle.front_check.specs.Texts.{long_text, fault_text, usage_text, verdict_text, status_of}
+use Rattle.front_check.specs.Words.{CheckWords, Options, with_option, options_from, no_options, mill_words, check_of, check_words}
+use Rattle.front_check.specs.Texts.{long_text, fault_text, verdict_text, status_of}
 use Rattle.front_check.specs.Outcomes.{Owing}
-use Rattle.front_check.specs.Owed.{Exactly, OwesOfFile, OwesOfYard, OwesVerdict, OwesOfCert, OwesOfCheck, OwesOfWords, most_bytes, with_colours}
+use Rattle.front_check.specs.Owed.{Exactly, OwesOfFile, OwesOfYard, OwesVerdict, OwesOfCert, OwesOfCheck, OwesOfWords}
 use Rattle.front_check.specs.Laws.{OneAnswer}
 
 -- ---- the colour limit of words that can stand

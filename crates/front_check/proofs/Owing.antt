@@ -1,5 +1,5 @@
 -- What is owed of files that have a value.
-use Rattle.std.proofs.Common.{◌≡◌, ◌≢◌, inl, inr, ℕ, ◌≤◌, Bool, true, false, nat_lt, List, length, Option, Some, None, Result, Ok, Err, refl, sym, subst, MatchResult, arith, rules}
+use Rattle.std.proofs.Common.{◌≡◌, ◌≢◌, inl, inr, ℕ, Bool, true, false, nat_lt, List, length, Option, Some, None, Result, Ok, Err, refl, sym, subst, MatchResult, arith}
 use Rattle.std.specs.Bool.{MatchBool}
 use Rattle.std.specs.FinMap.{get}
 use Rattle.std.specs.Prelude.{MatchOption}
@@ -11,16 +11,16 @@ use Rattle.mill_read.specs.YardFile.{yard_file}
 use Rattle.cert_rules.specs.Verdicts.{Verdict, IsVerdict}
 use Rattle.cert_rules.specs.Verdicts.Verdict.{Front, NoPlan, CutOff, Bad}
 use Rattle.cert_rules.proofs.Verdicts.{verdicts_hold}
+use Rattle.run_words.specs.Words.{MillWords, Parsed}
+use Rattle.run_words.specs.Files.{most_bytes, with_colours, HasValue, HasYard, HasMill}
+use Rattle.run_words.proofs.Files.{is_short}
 use Rattle.front_check.specs.declared.texts.Source.{Source}
 use Rattle.front_check.specs.declared.texts.Source.TheVariants.{Orders, Yard as YardSource}
-use Rattle.front_check.specs.Words.{MillWords, CheckWords, Parsed}
+use Rattle.front_check.specs.Words.{CheckWords}
 use Rattle.front_check.specs.Texts.{long_text, fault_text, verdict_text, status_of}
 use Rattle.front_check.specs.Outcomes.{Owing}
-use Rattle.front_check.specs.Owed.{Exactly, OwesOfFile, OwesOfYard, OwesOfMill, OwesVerdict, OwesOfCert, OwesOfCheck, MayEnd, IsVerdictStatus, most_bytes, with_colours}
-use Rattle.front_check.specs.Endings.{HasValue, HasYard, HasMill, HasVerdict}
-
-is_short : (n : ℕ) → n ≤ most_bytes → nat_lt most_bytes n ≡ false
-is_short n h = search rules
+use Rattle.front_check.specs.Owed.{Exactly, OwesOfFile, OwesOfYard, OwesOfMill, OwesVerdict, OwesOfCert, OwesOfCheck, MayEnd, IsVerdictStatus}
+use Rattle.front_check.specs.Endings.{HasVerdict}
 
 -- of a file with a value what follows is owed
 pub owes_value : {A : Type 0} (source : Source) (reading : List ℕ → Result A TextFault) (owes : A → Owing) (files : Files) (name : List ℕ) (value : A) (status : ℕ) (text : List ℕ)

@@ -1,42 +1,26 @@
 -- What the parts of a run answer.
-use Rattle.std.specs.Prelude.{◌≡◌, ◌≢◌, ◌⊎◌, ◌↔◌, ℕ, ◌≤◌, Bool, true, false, IsTrue, List, length, ⊤, Option, Some, None, Result, Ok, Err, IfErr}
+use Rattle.std.specs.Prelude.{◌≡◌, ◌≢◌, ◌⊎◌, ℕ, ◌≤◌, Bool, true, false, List, ⊤, Option, Some, Result, Ok, Err, IfErr}
 use Rattle.std.specs.String.{string_bytes}
 use Rattle.std.specs.FinMap.{get}
 use Rattle.slab_counter.specs.Counter.{Rose}
 use Rattle.slab_desk.specs.Desk.{Told, Files, Steps, WhereTold, HasFile, HasLongFile, ChangesLeft, Says, WithPrefix}
-use Rattle.mill_model.specs.Mill.{Mill, Yard, with_yard}
+use Rattle.mill_model.specs.Mill.{Mill}
 use Rattle.mill_read.specs.declared.fault.TextFault.{TextFault}
 use Rattle.mill_read.specs.declared.fault.TextError.{TextError}
 use Rattle.mill_read.specs.declared.fault.TextError.TheVariants.{Text as TextOf}
-use Rattle.mill_read.specs.OrderFile.{order_file}
-use Rattle.mill_read.specs.YardFile.{yard_file}
 use Rattle.cert_rules.specs.Verdicts.{Verdict, IsVerdict}
+use Rattle.run_words.specs.Words.{Parsed}
+use Rattle.run_words.specs.Files.{most_bytes, HasMill}
 use Rattle.front_check.specs.declared.ending.Ending.{Ending}
 use Rattle.front_check.specs.declared.ending.Stop.{Stop}
 use Rattle.front_check.specs.declared.ending.Stop.TheVariants.{Refused, Fault, Memory}
-use Rattle.front_check.specs.Words.{MillWords, CheckWords, Parsed}
+use Rattle.front_check.specs.Words.{CheckWords}
 use Rattle.front_check.specs.declared.texts.Source.{Source}
 use Rattle.front_check.specs.Texts.{long_text, fault_text}
 use Rattle.front_check.specs.Outcomes.{Owing}
-use Rattle.front_check.specs.Owed.{IsVerdictStatus, most_bytes, with_colours, StopsSoon}
+use Rattle.front_check.specs.Owed.{IsVerdictStatus, StopsSoon}
 
 -- ---- files
-
--- the file is there, isn't too long, and has this value
-abbrev pub HasValue : {A : Type 0} → (List ℕ → Result A TextFault) → List ℕ → A → Files → Type 0
-HasValue reading name value files = (bytes : List ℕ) × (get files name ≡ Some bytes) × (length bytes ≤ most_bytes) × (reading bytes ≡ Ok value)
-
-abbrev pub HasYard : Option (List ℕ) → Mill → Mill → Files → Type 0
-HasYard None bare mill files = mill ≡ bare
-HasYard (Some name) bare mill files = (yard : Yard) × HasValue (yard_file (length bare.orders)) name yard files × (mill ≡ with_yard bare yard)
-
--- the mill of the order file, with the yard of the yard file, and the colour limit of the words
-pub record HasMill (words : MillWords) (mill : Mill) (files : Files) : Type 0 where
-  pub bare : Mill
-  pub with_its_yard : Mill
-  pub orders : HasValue order_file words.orders bare files
-  pub yard : HasYard words.yard bare with_its_yard files
-  pub colours : mill ≡ with_colours words.colours with_its_yard
 
 -- the file is there, and this is the verdict on its bytes
 abbrev pub HasVerdict : Mill → List ℕ → Verdict → Files → Type 0
@@ -73,13 +57,6 @@ pub record HasOnlyRead {A : Type 0} (IsReason : Option Told → ℕ → ℕ → 
   pub left : Steps old new ChangesLeft
   pub later : before ≤ now
   pub kept : is_fault result ≡ false → now ≡ before
-
--- a run ends with 5 exactly where the desk's last call failed, and the count of faults explains it
-pub record EndsByFaults (before now : ℕ) (failed : Bool) (status : ℕ) : Type 0 where
-  pub fault : status ≡ 5 → Rose before now
-  pub later : before ≤ now
-  pub kept : status ≢ 5 → now ≡ before
-  pub stopped : (status ≡ 5) ↔ IsTrue failed
 
 -- ---- answers
 

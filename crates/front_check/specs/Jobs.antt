@@ -1,20 +1,13 @@
 -- What the reader of the words answers.
-use Rattle.std.specs.Prelude.{◌≡◌, ℕ, ◌+◌, List, Option, Some, None, IfSome, Result, Ok, Err}
+use Rattle.std.specs.Prelude.{◌≡◌, ℕ, ◌+◌, List, Option, IfSome, Result, Ok, Err}
 use Rattle.std.specs.Borrow.{Bor}
-use Rattle.std.specs.Option.{option_map}
 use Rattle.mill_model.specs.Mill.{IsBetween, most_colour_limit}
-use Rattle.front_check.specs.Words.{MillWords, CheckWords, Parsed, Options}
+use Rattle.run_words.specs.Words.{Parsed, name_bytes, named_mill, words_for}
+use Rattle.front_check.specs.Words.{CheckWords, Options}
 use Rattle.front_check.specs.declared.words.CheckJob.{CheckJob}
 use Rattle.front_check.specs.declared.words.CheckJob.TheVariants.{Check}
 use Rattle.front_check.specs.declared.words.Options.{Options as ReadOptions}
 use Rattle.front_check.specs.declared.words.CheckUsage.{CheckUsage}
-
--- the bytes of a name that may be missing
-abbrev pub name_bytes : Option (Bor (List ℕ)) → Option (List ℕ)
-name_bytes name = option_map (λ name. name.now) name
-
-abbrev pub named_mill : Bor (List ℕ) → Option (Bor (List ℕ)) → ℕ → MillWords
-named_mill orders yard colours = record { orders = orders.now; yard = name_bytes yard; colours = colours }
 
 abbrev pub named_check : Bor (List ℕ) → Bor (List ℕ) → Option (Bor (List ℕ)) → ℕ → CheckWords
 named_check orders cert yard colours = record { mill = named_mill orders yard colours; cert = cert.now }
@@ -32,11 +25,6 @@ options_of options = record { yard = name_bytes options.yard; colours = options.
 
 abbrev pub AreInRange : ReadOptions → Type 0
 AreInRange options = IfSome options.colours (IsBetween 1 most_colour_limit)
-
--- two words more for each option
-abbrev pub words_for : {A : Type 0} → Option A → ℕ
-words_for None = 0
-words_for (Some value) = 2
 
 -- the number of the word after the options
 abbrev pub word_after : Options → ℕ

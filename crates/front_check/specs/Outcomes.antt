@@ -1,7 +1,7 @@
 -- What a run says, and what is left of that where the outside fails.
 use Rattle.std.specs.Prelude.{◌≡◌, ◌≢◌, ◌⊎◌, ℕ, List, [], ◌++◌}
 use Rattle.slab_desk.specs.Desk.{Told, Files, WithPrefix}
-use Rattle.front_check.specs.Texts.{memory_text}
+use Rattle.run_words.specs.Texts.{memory_text}
 
 -- which status is owed with which text
 abbrev pub Owing : Type 1

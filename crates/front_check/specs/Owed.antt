@@ -17,17 +17,16 @@ use Rattle.cert_rules.specs.States.Wanted.{All}
 use Rattle.cert_rules.specs.Reading.{IsFirstBad}
 use Rattle.cert_rules.specs.Verdicts.{LeadToTheFront}
 use Rattle.cert_check.specs.Readings.{HasBadLine}
+use Rattle.run_words.specs.Words.{MillWords, Parsed}
+use Rattle.run_words.specs.Texts.{usage_text, bad_line_text}
+use Rattle.run_words.specs.Files.{most_bytes, with_colours}
 use Rattle.front_check.specs.declared.texts.Source.{Source}
 use Rattle.front_check.specs.declared.texts.Source.TheVariants.{Orders, Yard as YardSource}
-use Rattle.front_check.specs.Words.{MillWords, CheckWords, Parsed, check_words}
-use Rattle.front_check.specs.Texts.{usage_text, fault_text, long_text, proved_text, cut_text, no_plan_text, bad_line_text}
+use Rattle.front_check.specs.Words.{CheckWords, check_words}
+use Rattle.front_check.specs.Texts.{fault_text, long_text, proved_text, cut_text, no_plan_text}
 use Rattle.front_check.specs.Outcomes.{Owing}
 
 -- ---- files
-
--- the longest order or yard file that is read
-abbrev pub most_bytes : ℕ
-most_bytes = 1048576
 
 -- this status with this text, and no other
 abbrev pub Exactly : ℕ → List ℕ → Owing
@@ -49,10 +48,6 @@ OwesOfFile source reading owes files name status text =
 abbrev pub OwesOfYard : (Mill → Owing) → Files → Option (List ℕ) → Mill → Owing
 OwesOfYard owes files None m = owes m
 OwesOfYard owes files (Some name) m = OwesOfFile YardSource (yard_file (length m.orders)) (λ yard. owes (with_yard m yard)) files name
-
--- the colour limit of the words
-abbrev pub with_colours : ℕ → Mill → Mill
-with_colours colours m = record m { colour_limit = colours }
 
 -- the order file, and then the yard file
 abbrev pub OwesOfMill : (Mill → Owing) → Files → MillWords → Owing

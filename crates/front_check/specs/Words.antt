@@ -1,68 +1,16 @@
--- The words of the command line, and the first that can't stand.
-use Rattle.std.specs.Prelude.{ℕ, ◌+◌, Bool, false, ◌==◌, ◌&&◌, not, nat_le, is_none, List, [], ◌∷◌, if◌then◌else◌, Option, Some, None, Result, Ok, Err, codes}
-use Rattle.std.specs.Option.{option_and_then, unwrap_or}
+-- The words of the command line, and the first that can't stand. How one word is read stands in `run_words`.
+use Rattle.std.specs.Prelude.{ℕ, ◌+◌, ◌&&◌, is_none, List, [], ◌∷◌, if◌then◌else◌, Option, Some, None, Ok, Err, codes}
+use Rattle.std.specs.Option.{unwrap_or}
 use Rattle.std.specs.Str.{bytes_eq}
-use Rattle.std.specs.Str.Parse.{digits_value}
-use Rattle.std.specs.Fmt.{decimal}
 use Rattle.mill_model.specs.Mill.{most_colour_limit}
+use Rattle.run_words.specs.Words.{MillWords, default_colours, Parsed, ◌>>=◌, file_named, number_named, word_at, given_at}
 
 -- ---- what is asked of the program
-
--- where a mill comes from: an order file, a yard file where one is named, and a colour limit
-pub record MillWords : Type 0 where
-  pub orders : List ℕ
-  pub yard : Option (List ℕ)
-  pub colours : ℕ
 
 -- a mill, and the file of its certificate
 pub record CheckWords : Type 0 where
   pub mill : MillWords
   pub cert : List ℕ
-
--- where the words name none
-abbrev pub default_colours : ℕ
-default_colours = 2
-
--- ---- one word
-
--- a value, or the number of the first word that can't stand, or of the one that is missing
-abbrev pub Parsed : Type 0 → Type 0
-Parsed A = Result A ℕ
-
-infixl 10 ◌>>=◌
-abbrev pub ◌>>=◌ : {A B : Type 0} → Parsed A → (A → Parsed B) → Parsed B
-(Ok x) >>= f = f x
-(Err number) >>= f = Err number
-
--- a file word isn't empty, and doesn't begin with `-`
-abbrev pub is_file_word : List ℕ → Bool
-is_file_word [] = false
-is_file_word (first ∷ bytes) = not (first == 45)
-
-abbrev pub file_named : List ℕ → Option (List ℕ)
-file_named word = if is_file_word word then Some word else None
-
--- the number within these bounds whose decimal text the word is, if it is one's
-abbrev pub number_named : ℕ → ℕ → List ℕ → Option ℕ
-number_named least most word =
-    if bytes_eq word (decimal (digits_value 10 word)) && (nat_le least (digits_value 10 word) && nat_le (digits_value 10 word) most)
-    then Some (digits_value 10 word) else None
-
--- ---- words in their places
-
--- what is read, or the number of its word
-abbrev pub or_at : {A : Type 0} → ℕ → Option A → Parsed A
-or_at number None = Err number
-or_at number (Some value) = Ok value
-
--- the word that stands first has this number and is read so; and the words after it
-abbrev pub word_at : {A : Type 0} → (List ℕ → Option A) → ℕ → List (List ℕ) → Parsed (A × List (List ℕ))
-word_at reading number [] = Err number
-word_at reading number (word ∷ words) = or_at number (reading word) >>= λ value. Ok (value, words)
-
--- the same of a word that may be missing
-abbrev pub given_at : {A : Type 0} → (List ℕ → Option A) → ℕ → Option (List ℕ) → Parsed A
-given_at reading number word = or_at number (option_and_then reading word)
 
 -- ---- options, in any order, each at most once
 

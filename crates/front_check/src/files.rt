@@ -4,9 +4,10 @@ ghost use Rattle.slab_desk.specs.Desk.{WhereTold, HasFile};
 ghost use Rattle.mill_model.specs.Mill.{IsBetween, AreBarsAmong, most_colour_limit};
 ghost use Rattle.mill_read.specs.OrderFile.{order_file};
 ghost use Rattle.mill_read.specs.YardFile.{yard_file};
-ghost use Rattle.front_check.specs.Jobs.{named_mill};
-ghost use Rattle.front_check.specs.Owed.{Nothing, OwesOfFile, OwesOfMill, most_bytes};
-ghost use Rattle.front_check.specs.Endings.{HasOnlyRead, is_fault, HasValue, HasMill, IsStop, IsTooLong, IsRefusal};
+ghost use Rattle.run_words.specs.Words.{named_mill};
+ghost use Rattle.run_words.specs.Files.{most_bytes, HasValue, HasMill};
+ghost use Rattle.front_check.specs.Owed.{Nothing, OwesOfFile, OwesOfMill};
+ghost use Rattle.front_check.specs.Endings.{HasOnlyRead, is_fault, IsStop, IsTooLong, IsRefusal};
 
 use crate::ending::Stop;
 use crate::texts::{Source, fault_text, long_text};

@@ -4,12 +4,13 @@ ghost use Rattle.std.specs.String.{string_bytes};
 ghost use Rattle.slab_counter.specs.Counter.{Rose, last_count};
 ghost use Rattle.slab_desk.specs.Desk.{Steps};
 ghost use Rattle.mill_model.specs.Mill.{IsBetween, most_colour_limit};
+ghost use Rattle.run_words.specs.Texts.{usage_text as usage_line};
+ghost use Rattle.run_words.specs.Ends.{EndsByFaults};
 ghost use Rattle.front_check.specs.Jobs.{words_of, named_check, IsInRange};
 ghost use Rattle.front_check.specs.Words.{check_words};
-ghost use Rattle.front_check.specs.Texts.{usage_text as usage_line};
 ghost use Rattle.front_check.specs.Outcomes.{Ran};
 ghost use Rattle.front_check.specs.Owed.{Owes, OwesOfCheck, Exactly, MayEnd, IsVerdictStatus};
-ghost use Rattle.front_check.specs.Endings.{HasOnlyRead, EndsByFaults, Finishes, IsEnding, IsStop, is_fault, LeavesRest};
+ghost use Rattle.front_check.specs.Endings.{HasOnlyRead, Finishes, IsEnding, IsStop, is_fault, LeavesRest};
 
 use crate::ending::{Ending, Stop};
 use crate::files::read_mill;

@@ -1,7 +1,8 @@
 // The texts that a check says.
 ghost use Rattle.std.specs.Prelude.{◌≡◌, ◌++◌, IfOk, OnOk};
 ghost use Rattle.std.specs.String.{string_bytes};
-ghost use Rattle.front_check.specs.Texts.{usage_text as usage_line, source_word, why_word as word_of_why, fault_text as fault_line, long_text as long_line, point_text, front_text as front_lines, rule_word, bad_line_text as bad_line};
+ghost use Rattle.run_words.specs.Texts.{usage_text as usage_line, why_word as word_of_why, rule_word, bad_line_text as bad_line};
+ghost use Rattle.front_check.specs.Texts.{source_word, fault_text as fault_line, long_text as long_line, point_text, front_text as front_lines};
 ghost use Rattle.cert_check.specs.Whys.{why_of};
 
 use crate::words::CheckUsage;

@@ -3,8 +3,9 @@ ghost use Rattle.std.specs.Prelude.{◌≡◌, ℕ, ◌+◌, ◌^◌, ◌<◌, m
 ghost use Rattle.std.specs.Option.{option_and_then};
 ghost use Rattle.std.specs.String.{string_bytes};
 ghost use Rattle.mill_model.specs.Mill.{IsBetween};
-ghost use Rattle.front_check.specs.Words.{is_file_word, file_named, number_named, word_at, no_options, with_option as with_one_more, options_from, check_of, check_words};
-ghost use Rattle.front_check.specs.Jobs.{words_of, options_of, word_after, name_bytes, IsParsed, IsInRange, AreInRange};
+ghost use Rattle.run_words.specs.Words.{is_file_word, file_named, number_named, word_at, name_bytes};
+ghost use Rattle.front_check.specs.Words.{no_options, with_option as with_one_more, options_from, check_of, check_words};
+ghost use Rattle.front_check.specs.Jobs.{words_of, options_of, word_after, IsParsed, IsInRange, AreInRange};
 
 use itoa::Buffer;
 use mill_model::MOST_COLOUR_LIMIT;

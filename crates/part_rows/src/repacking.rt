@@ -1,4 +1,4 @@
-//! Plans that a search by neighbourhoods finds: three orders that lie without loss on three slabs, and on two.
+//! Plans that a start is completed to, and that a search by neighbourhoods finds: three orders that lie without loss on three slabs, and on two.
 use crate::mills::{NO_YARD, mill_of};
 use loss_table::LossTable;
 use mill_model::{Kind, Limits, Mill, Plan};
@@ -22,6 +22,13 @@ fn plan_of_three(alloc: Global) -> Result<Plan, AllocError> {
     Ok(Plan::new(kinds, place))
 }
 
+fn within(count: i64) -> Limits {
+    Limits {
+        loss: None,
+        count: Some(count),
+    }
+}
+
 // The loss and the count of the plan that is found within a count limit.
 fn least(
     repack: &mut Repack,
@@ -29,16 +36,25 @@ fn least(
     mill: &Mill,
     count: i64,
 ) -> Result<Option<(u32, u16)>, AllocError> {
-    let limits = Limits {
-        loss: None,
-        count: Some(count),
-    };
-    let Some(plan) = repack.search(alloc, mill, limits, 0, 1000)? else {
-        return Ok(None);
-    };
-    match plan.judge(mill) {
-        Ok(sums) => Ok(Some((sums.loss, sums.count))),
-        Err(_) => Ok(None),
+    let found = repack.search(alloc, mill, within(count), 0, 1000)?;
+    Ok(sums_of(mill, found))
+}
+
+// The loss and the count of the start, completed to a plan within a count limit.
+fn completed(
+    repack: &mut Repack,
+    alloc: Global,
+    mill: &Mill,
+    count: i64,
+) -> Result<Option<(u32, u16)>, AllocError> {
+    let found = repack.completed(alloc, mill, within(count))?;
+    Ok(sums_of(mill, found))
+}
+
+fn sums_of(mill: &Mill, found: Option<Plan>) -> Option<(u32, u16)> {
+    match found?.judge(mill) {
+        Ok(sums) => Some((sums.loss, sums.count)),
+        Err(_) => None,
     }
 }
 
@@ -61,6 +77,8 @@ fn a_column_is_taken(rt: HostRuntime) -> Result<(), Fail> {
     let mill = mill_of(alloc, ORDERS, NO_YARD, 2)?;
     let mut repack = repack_of(alloc, &mill)?;
     assert!(rt; repack.take(Kind::New(10), &[1, 2]) && !repack.take(Kind::New(10), &[0, 1]));
+    assert!(rt; completed(&mut repack, alloc, &mill, 1)? == None);
+    assert!(rt; completed(&mut repack, alloc, &mill, 2)? == Some((0, 2)));
     assert!(rt; least(&mut repack, alloc, &mill, 2)? == Some((0, 2)));
     Ok(())
 }

@@ -4,7 +4,7 @@ ghost use Rattle.mill_model.specs.Starts.{IsStart};
 use crate::asked::{Asked, ask};
 use crate::leaves::refute;
 use loss_table::LossTable;
-use mill_model::{Kind, Limits, Mark, Mill, Plan, Shown, Starter, Steps};
+use mill_model::{Kind, Limits, Mark, Mill, Plan, Shown, Starter, Step, Steps};
 use mill_read::{read_orders, read_yard};
 use slab_columns::Pool;
 use slab_node::Tally;
@@ -19,6 +19,9 @@ const THREE_PAIRS: &str = "1 10 1 3 5 1 5 1 5 1";
 // Three orders of three colours, which fill a slab together.
 const THREE_COLOURS: &str = "1 9 3 3 3 1 3 2 3 3";
 
+// Five orders of five colours, of which three fill a slab.
+const FIVE_COLOURS: &str = "1 9 5 5 3 1 3 2 3 3 3 4 3 5";
+
 // The order is heavier than the slabs.
 const HEAVY: &str = "1 4 1 1 5 1";
 
@@ -28,6 +31,14 @@ const TEN: &str = "2 40 43 4 10 5 3 18 1 7 3 21 1 24 1 21 1 8 2 21 4 24 4 26 2";
 
 // A mill by its files, the most colours on a slab, whether the question starts with the first-fit plan, and the node limit.
 type Question = (&'static str, &'static str, u16, bool, u64);
+
+// The nodes that were opened for a question, the turns that they took, and the masters that were solved.
+#[derive(Clone, Copy, PartialEq, Eq, Debug)]
+struct Work {
+    opened: u64,
+    turns: u64,
+    solves: u64,
+}
 
 // What a question came to.
 #[derive(Clone, Copy, PartialEq, Eq, Debug)]
@@ -50,8 +61,13 @@ fn mill_of(alloc: Global, orders: &str, yard: &str, colours: u16) -> Option<Mill
     Some(mill)
 }
 
-// What a question without a count limit came to, with the nodes that were opened for it.
-fn asked(alloc: Global, mill: &Mill, starts: bool, limit: u64) -> Result<(Asked, u64), AllocError> {
+// What a question without a count limit came to, with the counts of its run.
+fn asked(
+    alloc: Global,
+    mill: &Mill,
+    starts: bool,
+    limit: u64,
+) -> Result<(Asked, Work), AllocError> {
     let table = LossTable::new(alloc, mill)?;
     let mut pool = Pool::new(alloc, mill)?;
     let mut nodes = Nodes::new(limit.max(1));
@@ -60,7 +76,12 @@ fn asked(alloc: Global, mill: &Mill, starts: bool, limit: u64) -> Result<(Asked,
     let asked = ask(
         alloc, mill, &table, &mut pool, None, best, &mut nodes, &mut tally,
     )?;
-    Ok((asked, nodes.opened()))
+    let work = Work {
+        opened: nodes.opened(),
+        turns: pool.turns(),
+        solves: tally.stalls.solves(),
+    };
+    Ok((asked, work))
 }
 
 // The plan that a question starts with.
@@ -78,7 +99,8 @@ fn came_to(alloc: Global, question: Question) -> Result<Came, AllocError> {
     let Some(mill) = mill_of(alloc, orders, yard, colours) else {
         return Ok(Came::Nothing);
     };
-    let (asked, opened) = asked(alloc, &mill, starts, limit)?;
+    let (asked, work) = asked(alloc, &mill, starts, limit)?;
+    let opened = work.opened;
     match asked {
         Asked::Least(plan, steps) => least(alloc, &mill, &plan, &steps, opened),
         Asked::NoPlan(steps) => {
@@ -103,10 +125,7 @@ fn least(
     let Ok(sums) = plan.judge(mill) else {
         return Ok(Came::Nothing);
     };
-    let less = Limits {
-        loss: Some(i64::from(sums.loss) - 1),
-        count: None,
-    };
+    let less = loss_limit(i64::from(sums.loss) - 1);
     let refuted = refute(alloc, mill, less, steps.list())?;
     Ok(Came::Least(sums.loss, opened, refuted))
 }
@@ -118,7 +137,7 @@ fn rows() -> [(Question, Came); 8] {
         ((HEAVY, "0", 2, false, 100), Came::NoPlan(1, true)),
         // two colours: a pair and a single order
         ((THREE_COLOURS, "0", 2, true, 100), Came::Least(9, 3, true)),
-        // three colours: all on one slab, and no plan has less loss than none
+        // three colours: all on one slab; no loss is below none, which plain prices show
         ((THREE_COLOURS, "0", 3, true, 100), Came::Least(0, 1, true)),
         // one colour: no two orders on a slab, and prices show it at once
         ((THREE_COLOURS, "0", 1, true, 100), Came::Least(18, 1, true)),
@@ -141,9 +160,13 @@ fn a_question_comes_to(rt: HostRuntime) -> Result<(), Fail> {
 }
 
 // The number of nodes isn't fixed.
-fn losses() -> [(Question, u32); 2] {
+fn losses() -> [(Question, u32); 4] {
     [
         ((THREE_PAIRS, "1 10 1 1 1", 2, true, 100), 5),
+        // three colours: two slabs; a sixth of each three orders covers them without loss
+        ((FIVE_COLOURS, "0", 3, true, 1000), 3),
+        // two colours: three slabs; a quarter of each pair covers them, and loses 7 and a half
+        ((FIVE_COLOURS, "0", 2, true, 1000), 12),
         ((TEN, "0", 2, true, 1000), 28),
     ]
 }
@@ -199,4 +222,68 @@ fn has_pair(shown: &Shown, first: u16, second: u16) -> bool {
             && matches!(share.kind(), Kind::New(10))
             && matches!(share.orders(), [i, j] if *i == first && *j == second)
     })
+}
+
+// A leaf doesn't refute the loss of a plan that agrees with it, and a tree without its last leaf isn't whole.
+#[test]
+fn leaves_refute_no_more(rt: HostRuntime) -> Result<(), Fail> {
+    let alloc = rt.alloc();
+    let refuted = match mill_of(alloc, THREE_PAIRS, "0", 2) {
+        Some(mill) => match &asked(alloc, &mill, true, 3)?.0 {
+            Asked::Least(_, steps) => refuted(alloc, &mill, steps.list())?,
+            _ => None,
+        },
+        None => None,
+    };
+    assert_eq!(rt; refuted, Some([true, false, false]));
+    Ok(())
+}
+
+// Whether three steps refute less loss than the best plan's, its own loss, and less without the last step.
+fn refuted(alloc: Global, mill: &Mill, steps: &[Step]) -> Result<Option<[bool; 3]>, AllocError> {
+    if steps.len() != 3 {
+        return Ok(None);
+    }
+    Ok(Some([
+        refute(alloc, mill, loss_limit(4), steps)?,
+        refute(alloc, mill, loss_limit(5), steps)?,
+        refute(alloc, mill, loss_limit(4), &steps[..2])?,
+    ]))
+}
+
+fn loss_limit(loss: i64) -> Limits {
+    Limits {
+        loss: Some(loss),
+        count: None,
+    }
+}
+
+// Three nodes took a turn each at least, and the root's cover came from a master. Where no slab holds an order, the prices are
+// found without one, in one turn.
+#[test]
+fn turns_and_solves_are_counted(rt: HostRuntime) -> Result<(), Fail> {
+    let pairs = worked(rt.alloc(), THREE_PAIRS, true)?;
+    assert!(rt; pairs.turns >= 3 && pairs.solves >= 1);
+    let heavy = worked(rt.alloc(), HEAVY, false)?;
+    assert_eq!(rt;
+        heavy,
+        Work {
+            opened: 1,
+            turns: 1,
+            solves: 0
+        }
+    );
+    Ok(())
+}
+
+// The counts of a question with two colours and no yard.
+fn worked(alloc: Global, orders: &str, starts: bool) -> Result<Work, AllocError> {
+    match mill_of(alloc, orders, "0", 2) {
+        Some(mill) => Ok(asked(alloc, &mill, starts, 100)?.1),
+        None => Ok(Work {
+            opened: 0,
+            turns: 0,
+            solves: 0,
+        }),
+    }
 }

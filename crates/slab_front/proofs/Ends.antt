@@ -1,9 +1,11 @@
 -- How a run ends, from what its parts did.
 use Rattle.std.proofs.Common.{◌≡◌, ◌≢◌, inl, inr, ℕ, List, [], ◌++◌, Option, Some, None, Ok, refl, sym, ap, ◌∙◌, subst}
 use Rattle.slab_desk.specs.Desk.{Told, Files, Steps, WhereTold, ChangesLeft}
-use Rattle.slab_front.specs.Texts.{memory_text}
+use Rattle.run_words.specs.Words.{Parsed}
+use Rattle.run_words.specs.Texts.{memory_text}
+use Rattle.run_words.proofs.Telling.{always, joined}
 use Rattle.slab_relax.specs.declared.tally.Tally.{Tally}
-use Rattle.slab_front.specs.Words.{Command, Parsed}
+use Rattle.slab_front.specs.Words.{Command}
 use Rattle.slab_front.specs.Outcomes.{Outcome, Owing, Gives, BeginsToStore, BeginsToSay, Begins, Ran, saying, storing, with_file}
 use Rattle.slab_front.specs.Owed.{OwesOfWords, OwesOfCommand}
 use Rattle.slab_front.specs.Endings.{Finishes}
@@ -27,16 +29,6 @@ begun_after o x y z p (inl stores) = inl (stored o.stored stores)
     stored (Some (name, bytes)) (front, back, whole, q) = (front, back, whole, given_after (storing name front) x y z p q)
 begun_after o x y z p (inr (front, back, whole, q)) = inr (front, back, whole, given_after (record o { said = front }) x y z p q)
 
--- a step that reads and a step that gives, joined
-joined : {Q R : Told → Told → Type 0} (W : Files → Type 0) (a b c : Option Told)
-    → WhereTold a (λ t. W t.files) → ((x y z : Told) → W x.files → ChangesLeft x y → Q y z → R x z) → Steps a b ChangesLeft → Steps b c Q → Steps a c R
-joined W None None None w join p q = tt
-joined W None None (Some z) w join p q = q
-joined W None (Some y) c w join p q = absurd p
-joined W (Some x) None c w join p q = absurd p
-joined W (Some x) (Some y) None w join p q = q
-joined W (Some x) (Some y) (Some z) w join p q = join x y z w p q
-
 -- ---- ends
 
 -- an outcome that is owed
@@ -58,14 +50,6 @@ ends_owed owes status result o a b c (not5, not6) is read end = elim end.status 
     owed = λ not _. absurd (not e);
   }) read (end.short e)
 ]
-
--- what holds of all that a desk may tell
-pub always_told : (P : Told → Type 0) (a : Option Told) → ((t : Told) → P t) → WhereTold a P
-always_told P None f = tt
-always_told P (Some x) f = f x
-
-always : (a : Option Told) → WhereTold a (λ _. Unit {0})
-always a = always_told (λ _. Unit {0}) a (λ _. tt)
 
 -- the text for want of memory
 pub ends_memory : (owes : Files → Owing) (result : ℕ) (a b c : Option Told)

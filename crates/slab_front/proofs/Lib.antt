@@ -1,8 +1,6 @@
-pub mod Telling
 pub mod Owing
 pub mod Ends
 pub mod Stores
-pub mod Numbers
 pub mod OptionSteps
 pub mod Searching
 pub mod Pieces

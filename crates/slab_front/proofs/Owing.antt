@@ -1,5 +1,5 @@
 -- What is owed of files that have a value.
-use Rattle.std.proofs.Common.{◌≡◌, ◌≢◌, inl, inr, ℕ, ◌≤◌, Bool, true, false, cond, not, nat_eq, nat_lt, List, [], ◌∷◌, length, Option, Some, None, Result, Ok, Err, refl, sym, ap, subst, MatchResult, arith, rules}
+use Rattle.std.proofs.Common.{◌≡◌, ◌≢◌, inl, inr, ℕ, Bool, true, false, cond, not, nat_eq, nat_lt, List, [], ◌∷◌, length, Option, Some, None, Result, Ok, Err, refl, sym, ap, subst, MatchResult, arith}
 use Rattle.std.specs.Bool.{MatchBool}
 use Rattle.std.specs.Prelude.{MatchOption, find}
 use Rattle.slab_desk.specs.Desk.{Files}
@@ -16,18 +16,19 @@ use Rattle.cert_check.specs.Whys.{why_of}
 use Rattle.mill_read.specs.declared.fault.TextFault.{TextFault}
 use Rattle.mill_read.specs.OrderFile.{order_file}
 use Rattle.mill_read.specs.YardFile.{yard_file}
+use Rattle.run_words.specs.Words.{MillWords, Parsed}
+use Rattle.run_words.specs.Texts.{bad_line_text}
+use Rattle.run_words.specs.Files.{most_bytes, with_colours, HasValue, HasYard, HasMill}
+use Rattle.run_words.proofs.Files.{is_short}
 use Rattle.slab_front.specs.declared.texts.Source.{Source}
 use Rattle.slab_front.specs.declared.texts.Source.TheVariants.{Orders, Yard as YardSource}
-use Rattle.slab_front.specs.Words.{MillWords, Command, Parsed}
+use Rattle.slab_front.specs.Words.{Command}
 use Rattle.slab_front.specs.Words.Command.{Solves, Resumes, Judges, Makes}
-use Rattle.slab_front.specs.Texts.{long_text, fault_text, bad_line_text}
+use Rattle.slab_front.specs.Texts.{long_text, fault_text}
 use Rattle.slab_front.specs.Searched.{Searched, IsSearched, status_of}
 use Rattle.slab_front.specs.Outcomes.{Outcome, Owing, saying}
-use Rattle.slab_front.specs.Owed.{Exactly, OwesOfFile, OwesOfYard, OwesOfMill, OwesOfPoints, OwesOfCut, OwesResumed, OwesSearch, stored_as, MayEnd, most_bytes, with_colours}
-use Rattle.slab_front.specs.Endings.{HasValue, HasYard, HasMill, OnCutFile, IsReadCut}
-
-is_short : (n : ℕ) → n ≤ most_bytes → nat_lt most_bytes n ≡ false
-is_short n h = search rules
+use Rattle.slab_front.specs.Owed.{Exactly, OwesOfFile, OwesOfYard, OwesOfMill, OwesOfPoints, OwesOfCut, OwesResumed, OwesSearch, stored_as, MayEnd}
+use Rattle.slab_front.specs.Endings.{OnCutFile, IsReadCut}
 
 -- of a file with a value what follows is owed
 pub owes_value : {A : Type 0} (source : Source) (reading : List ℕ → Result A TextFault) (owes : A → Owing) (files : Files) (name : List ℕ) (value : A) (status : ℕ) (o : Outcome)

@@ -1,48 +1,32 @@
 -- What the parts of a run answer.
-use Rattle.std.specs.Prelude.{◌≡◌, ◌≢◌, ◌⊎◌, ◌↔◌, ℕ, ◌≤◌, Bool, true, false, IsTrue, List, [], length, ⊤, Option, Some, None, Result, Ok, Err, IfErr}
+use Rattle.std.specs.Prelude.{◌≡◌, ◌≢◌, ◌⊎◌, ℕ, ◌≤◌, Bool, true, false, List, [], ⊤, Option, Some, Result, Ok, Err, IfErr}
 use Rattle.std.specs.String.{string_bytes}
 use Rattle.std.specs.FinMap.{get}
 use Rattle.slab_counter.specs.Counter.{Rose}
 use Rattle.slab_desk.specs.Desk.{Told, Files, Steps, WhereTold, HasLongFile, ChangesLeft}
-use Rattle.mill_model.specs.Mill.{Mill, Yard, with_yard}
+use Rattle.mill_model.specs.Mill.{Mill}
 use Rattle.mill_read.specs.declared.fault.TextFault.{TextFault}
 use Rattle.mill_read.specs.declared.fault.TextError.{TextError}
 use Rattle.mill_read.specs.declared.fault.TextError.TheVariants.{Text as TextOf}
-use Rattle.mill_read.specs.OrderFile.{order_file}
-use Rattle.mill_read.specs.YardFile.{yard_file}
 use Rattle.mill_model.specs.Fronts.{IsGoodHead}
 use Rattle.cert_rules.specs.States.Wanted.{Cuts}
 use Rattle.cert_rules.specs.Reading.{IsFirstBad}
 use Rattle.cert_check.specs.declared.verdict.CutRead.{CutRead}
 use Rattle.cert_check.specs.declared.verdict.CutRead.TheVariants as cuts
 use Rattle.cert_check.specs.Whys.{why_of}
+use Rattle.run_words.specs.Words.{Parsed}
+use Rattle.run_words.specs.Files.{most_bytes}
 use Rattle.slab_front.specs.declared.ending.Answer.{Answer}
 use Rattle.slab_front.specs.declared.ending.Answer.TheVariants.{Text, Stored, SummedUp}
 use Rattle.slab_front.specs.declared.ending.Ending.{Ending}
 use Rattle.slab_front.specs.declared.ending.Stop.{Stop}
 use Rattle.slab_front.specs.declared.ending.Stop.TheVariants.{Refused, Fault, Memory}
-use Rattle.slab_front.specs.Words.{MillWords, Command, Parsed}
+use Rattle.slab_front.specs.Words.{Command}
 use Rattle.slab_front.specs.declared.texts.Source.{Source}
 use Rattle.slab_front.specs.Texts.{long_text, fault_text}
 use Rattle.slab_front.specs.Searched.{status_of}
 use Rattle.slab_front.specs.Outcomes.{Outcome, Owing, Gives, SaysOnly, Begins, saying}
-use Rattle.slab_front.specs.Owed.{MayEnd, SpellsCut, most_bytes, with_colours, stored_as, summed_up}
-
--- the file is there, isn't too long, and has this value
-abbrev pub HasValue : {A : Type 0} → (List ℕ → Result A TextFault) → List ℕ → A → Files → Type 0
-HasValue reading name value files = (bytes : List ℕ) × (get files name ≡ Some bytes) × (length bytes ≤ most_bytes) × (reading bytes ≡ Ok value)
-
-abbrev pub HasYard : Option (List ℕ) → Mill → Mill → Files → Type 0
-HasYard None bare mill files = mill ≡ bare
-HasYard (Some name) bare mill files = (yard : Yard) × HasValue (yard_file (length bare.orders)) name yard files × (mill ≡ with_yard bare yard)
-
--- the mill of the order file, with the yard of the yard file, and the colour limit of the words
-pub record HasMill (words : MillWords) (mill : Mill) (files : Files) : Type 0 where
-  pub bare : Mill
-  pub with_its_yard : Mill
-  pub orders : HasValue order_file words.orders bare files
-  pub yard : HasYard words.yard bare with_its_yard files
-  pub colours : mill ≡ with_colours words.colours with_its_yard
+use Rattle.slab_front.specs.Owed.{MayEnd, SpellsCut, stored_as, summed_up}
 
 -- ---- stops
 
@@ -75,13 +59,6 @@ IsStoppedBy (Ok (SummedUp m s)) failed = Unit {0}
 IsStoppedBy (Err (Refused text)) failed = failed ≡ false
 IsStoppedBy (Err Fault) failed = failed ≡ true
 IsStoppedBy (Err Memory) failed = Unit {0}
-
--- a run ends with 5 exactly where the desk's last call failed, and the count of faults explains it
-pub record EndsByFaults (before now : ℕ) (failed : Bool) (status : ℕ) : Type 0 where
-  pub fault : status ≡ 5 → Rose before now
-  pub later : before ≤ now
-  pub kept : status ≢ 5 → now ≡ before
-  pub stopped : (status ≡ 5) ↔ IsTrue failed
 
 -- ---- answers
 

@@ -1,9 +1,8 @@
 -- What the reader of the words answers.
-use Rattle.std.specs.Prelude.{◌≡◌, ℕ, ◌+◌, ◌≤◌, Bool, true, false, List, Option, Some, None, IfSome, Result, Ok, Err}
-use Rattle.std.specs.Borrow.{Bor}
-use Rattle.std.specs.Option.{option_map}
+use Rattle.std.specs.Prelude.{◌≡◌, ℕ, ◌+◌, ◌≤◌, Bool, true, false, IfSome, Result, Ok, Err}
 use Rattle.mill_model.specs.Mill.{IsBetween, most_orders, most_colour_limit}
-use Rattle.slab_front.specs.Words.{MillWords, Command, Parsed, Options, most_limit}
+use Rattle.run_words.specs.Words.{Parsed, name_bytes, named_mill, words_for}
+use Rattle.slab_front.specs.Words.{Command, Options, most_limit}
 use Rattle.slab_front.specs.Words.Command.{Solves, Resumes, Judges, Makes}
 use Rattle.slab_front.specs.declared.words.Job.{Job}
 use Rattle.slab_front.specs.declared.words.Job.TheVariants.{Solve, Resume, Judge, Make}
@@ -11,13 +10,6 @@ use Rattle.slab_front.specs.declared.words.Optioned.{Optioned}
 use Rattle.slab_front.specs.declared.words.Optioned.TheVariants.{Solving, Resuming, Judging}
 use Rattle.slab_front.specs.declared.words.Options.{Options as ReadOptions}
 use Rattle.slab_front.specs.declared.words.UsageAt.{UsageAt}
-
--- the bytes of a name that may be missing
-abbrev pub name_bytes : Option (Bor (List ℕ)) → Option (List ℕ)
-name_bytes name = option_map (λ name. name.now) name
-
-abbrev pub named_mill : Bor (List ℕ) → Option (Bor (List ℕ)) → ℕ → MillWords
-named_mill orders yard colours = record { orders = orders.now; yard = name_bytes yard; colours = colours }
 
 abbrev pub command_of : Job → Command
 command_of (Solve orders cert yard nodes colours) = Solves (named_mill orders yard colours) cert.now nodes
@@ -53,11 +45,6 @@ abbrev pub options_at : Optioned → ℕ
 options_at Solving = 4
 options_at Resuming = 5
 options_at Judging = 4
-
--- two words more for each option
-abbrev pub words_for : {A : Type 0} → Option A → ℕ
-words_for None = 0
-words_for (Some value) = 2
 
 -- the number of the word after the options, of which the first has this number
 abbrev pub word_after : ℕ → Options → ℕ

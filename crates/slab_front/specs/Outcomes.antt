@@ -2,7 +2,7 @@
 use Rattle.std.specs.Prelude.{◌≡◌, ◌≢◌, ◌⊎◌, ℕ, List, [], ◌++◌, Option, Some, None}
 use Rattle.std.specs.FinMap.{insert}
 use Rattle.slab_desk.specs.Desk.{Told, Files, WithPrefix}
-use Rattle.slab_front.specs.Texts.{memory_text}
+use Rattle.run_words.specs.Texts.{memory_text}
 
 -- a text that is said, and the file that is created before that, where there is one: its name and its bytes
 pub record Outcome : Type 0 where

@@ -20,17 +20,16 @@ use Rattle.cert_rules.specs.Reading.{IsFirstBad}
 use Rattle.cert_text.specs.Certificates.{Certificate, ShowsCut}
 use Rattle.cert_text.specs.Texts.{Spells, certificate_text}
 use Rattle.mill_report.specs.Reports.{report_text, summary_text}
+use Rattle.run_words.specs.Words.{MillWords, Parsed}
+use Rattle.run_words.specs.Texts.{usage_text, bad_line_text}
+use Rattle.run_words.specs.Files.{most_bytes, with_colours}
 use Rattle.slab_front.specs.declared.texts.Source.{Source}
 use Rattle.slab_front.specs.declared.texts.Source.TheVariants.{Orders, Yard as YardSource, Plan as PlanSource}
-use Rattle.slab_front.specs.Words.{MillWords, Command, Parsed, job_of, default_nodes}
+use Rattle.slab_front.specs.Words.{Command, job_of, default_nodes}
 use Rattle.slab_front.specs.Words.Command.{Solves, Resumes, Judges, Makes}
-use Rattle.slab_front.specs.Texts.{usage_text, fault_text, long_text, legal_text, bad_line_text, SaysBroken}
+use Rattle.slab_front.specs.Texts.{fault_text, long_text, legal_text, SaysBroken}
 use Rattle.slab_front.specs.Searched.{Searched, IsSearched, FindsFront, certificate_of, word_of}
 use Rattle.slab_front.specs.Outcomes.{Outcome, Owing, saying}
-
--- the longest file that is read
-abbrev pub most_bytes : ℕ
-most_bytes = 1048576
 
 -- this status with this text, and no other
 abbrev pub Exactly : ℕ → List ℕ → Owing
@@ -52,10 +51,6 @@ OwesOfFile source reading owes files name status outcome =
 abbrev pub OwesOfYard : (Mill → Owing) → Files → Option (List ℕ) → Mill → Owing
 OwesOfYard owes files None m = owes m
 OwesOfYard owes files (Some name) m = OwesOfFile YardSource (yard_file (length m.orders)) (λ yard. owes (with_yard m yard)) files name
-
--- the colour limit of the words
-abbrev pub with_colours : ℕ → Mill → Mill
-with_colours colours m = record m { colour_limit = colours }
 
 -- the order file, and then the yard file
 abbrev pub OwesOfMill : (Mill → Owing) → Files → MillWords → Owing

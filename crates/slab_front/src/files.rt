@@ -5,9 +5,10 @@ ghost use Rattle.mill_model.specs.Mill.{IsBetween, AreBarsAmong, most_colour_lim
 ghost use Rattle.mill_read.specs.OrderFile.{order_file};
 ghost use Rattle.mill_read.specs.YardFile.{yard_file};
 ghost use Rattle.mill_read.specs.PlanFile.{plan_file};
-ghost use Rattle.slab_front.specs.Jobs.{named_mill};
-ghost use Rattle.slab_front.specs.Owed.{Nothing, OwesOfFile, OwesOfMill, most_bytes};
-ghost use Rattle.slab_front.specs.Endings.{HasOnlyRead, is_fault, HasValue, HasMill, IsStop, IsTooLong, IsRefusal};
+ghost use Rattle.run_words.specs.Words.{named_mill};
+ghost use Rattle.run_words.specs.Files.{most_bytes, HasValue, HasMill};
+ghost use Rattle.slab_front.specs.Owed.{Nothing, OwesOfFile, OwesOfMill};
+ghost use Rattle.slab_front.specs.Endings.{HasOnlyRead, is_fault, IsStop, IsTooLong, IsRefusal};
 
 use crate::ending::Stop;
 use crate::texts::{Source, fault_text, long_text};

@@ -3,10 +3,11 @@ ghost use Rattle.std.specs.Prelude.{◌≡◌, ◌≢◌, ◌⊎◌, ◌<◌, fa
 ghost use Rattle.slab_desk.specs.Causes.{HasCause};
 ghost use Rattle.slab_desk.specs.Desk.{Steps, Says, WithPrefix};
 ghost use Rattle.cert_text.specs.Texts.{certificate_text};
+ghost use Rattle.run_words.specs.Ends.{EndsByFaults};
 ghost use Rattle.slab_front.specs.Outcomes.{Gives, SaysOnly, BeginsToStore, saying, storing};
 ghost use Rattle.slab_front.specs.Owed.{stored_as, summed_up};
 ghost use Rattle.slab_front.specs.Searched.{certificate_of, status_of};
-ghost use Rattle.slab_front.specs.Endings.{EndsByFaults, Finishes, IsStoppedBy, status_for, outcome_for};
+ghost use Rattle.slab_front.specs.Endings.{Finishes, IsStoppedBy, status_for, outcome_for};
 
 use crate::ending::Answer;
 use crate::search::Search;

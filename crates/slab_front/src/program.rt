@@ -4,12 +4,13 @@ ghost use Rattle.std.specs.String.{string_bytes};
 ghost use Rattle.slab_counter.specs.Counter.{Rose, last_count};
 ghost use Rattle.slab_desk.specs.Desk.{Steps};
 ghost use Rattle.slab_relax.specs.Tallies.{AreNoLess};
+ghost use Rattle.run_words.specs.Texts.{usage_text as usage_line};
+ghost use Rattle.run_words.specs.Ends.{EndsByFaults};
 ghost use Rattle.slab_front.specs.Jobs.{command_of, IsInRanges};
 ghost use Rattle.slab_front.specs.Words.{job_of};
-ghost use Rattle.slab_front.specs.Texts.{usage_text as usage_line};
 ghost use Rattle.slab_front.specs.Outcomes.{Ran};
 ghost use Rattle.slab_front.specs.Owed.{Owes, OwesOfCommand, Exactly, MayEnd, LeavesUnread};
-ghost use Rattle.slab_front.specs.Endings.{HasOnlyRead, EndsByFaults, IsAnswer, IsStop, IsStoppedBy, MayAnswer};
+ghost use Rattle.slab_front.specs.Endings.{HasOnlyRead, IsAnswer, IsStop, IsStoppedBy, MayAnswer};
 
 use crate::ending::{Answer, Stop};
 use crate::giving::{give, say};

@@ -1,8 +1,8 @@
 ghost use Rattle.std.specs.Prelude.{◌≡◌, ◌⊎◌, ◌≤◌, Bool, [], Ok, IfOk};
 ghost use Rattle.mill_model.specs.Mill.{IsBetween, most_colour_limit, most_orders};
 ghost use Rattle.slab_relax.specs.Tallies.{AreNoLess};
+ghost use Rattle.run_words.specs.Words.{named_mill};
 ghost use Rattle.slab_front.specs.Words.{most_limit};
-ghost use Rattle.slab_front.specs.Jobs.{named_mill};
 ghost use Rattle.slab_front.specs.Owed.{IsSearchStatus, OwesOfMill, OwesSearch, OwesResumed, OwesMade, stored_as, Nothing};
 ghost use Rattle.slab_front.specs.Endings.{HasOnlyRead, IsStoppedBy, is_fault, IsAnswer, IsStop, status_for, outcome_for};
 

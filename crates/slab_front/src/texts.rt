@@ -1,7 +1,8 @@
 ghost use Rattle.std.specs.Prelude.{◌≡◌, ◌≢◌, IfOk};
 ghost use Rattle.std.specs.String.{string_bytes};
 ghost use Rattle.cert_check.specs.Whys.{why_of};
-ghost use Rattle.slab_front.specs.Texts.{usage_text as usage_line, source_word, why_word as word_of_why, fault_text as fault_line, long_text as long_line, legal_text as legal_line, slab_text as slab_line, SaysBroken, bad_line_text as bad_line, rule_word};
+ghost use Rattle.run_words.specs.Texts.{usage_text as usage_line, why_word as word_of_why, bad_line_text as bad_line, rule_word};
+ghost use Rattle.slab_front.specs.Texts.{source_word, fault_text as fault_line, long_text as long_line, legal_text as legal_line, slab_text as slab_line, SaysBroken};
 
 use crate::words::UsageAt;
 use cert_check::LineWhy;

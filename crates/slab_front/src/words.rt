@@ -2,8 +2,9 @@ ghost use Rattle.std.specs.Prelude.{◌≡◌, ℕ, ◌+◌, ◌^◌, ◌<◌, �
 ghost use Rattle.std.specs.Option.{option_and_then};
 ghost use Rattle.std.specs.String.{string_bytes};
 ghost use Rattle.mill_model.specs.Mill.{IsBetween};
-ghost use Rattle.slab_front.specs.Words.{is_file_word, file_named, number_named, word_at, end_at, no_options, with_option as with_one_more, options_from, solve_of, resume_of, judge_of, make_of, job_of};
-ghost use Rattle.slab_front.specs.Jobs.{command_of, searches_for, options_at as number_of_options, options_of, word_after, name_bytes, IsParsed, IsInRanges, AreInRanges};
+ghost use Rattle.run_words.specs.Words.{is_file_word, file_named, number_named, word_at, name_bytes};
+ghost use Rattle.slab_front.specs.Words.{end_at, no_options, with_option as with_one_more, options_from, solve_of, resume_of, judge_of, make_of, job_of};
+ghost use Rattle.slab_front.specs.Jobs.{command_of, searches_for, options_at as number_of_options, options_of, word_after, IsParsed, IsInRanges, AreInRanges};
 
 use itoa::Buffer;
 use mill_model::{MOST_COLOUR_LIMIT, MOST_ORDERS};

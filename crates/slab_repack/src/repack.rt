@@ -82,6 +82,23 @@ impl Repack {
         self.layout.take(&self.facts, kind, orders)
     }
 
+    /// The start, completed to a plan: each order that lies nowhere is placed where it costs least. It answers the plan, legal and in
+    /// order, where it is within the limits, or none. A search then goes on from there. Its only error is want of memory.
+    pub fn completed(
+        &mut self,
+        alloc: Global,
+        mill: &Mill,
+        limits: Limits,
+    ) -> Result<Option<Plan>, AllocError>
+        ensures found { IfOk result (λ found. IfSome found (IsFoundPlan mill.now limits)) }
+    {
+        if !self.layout.complete(&self.facts) {
+            return Ok(None);
+        }
+        let plan = self.layout.plan(alloc, &self.facts)?;
+        Ok(judged(mill, plan, limits))
+    }
+
     /// Searches from where it stands for so many steps, or until sums of sizes allow no better plan. It answers the plan of least
     /// loss that it found within the limits, legal and in order, or none. Once the loss is no more than `enough`, or the least that
     /// sums of sizes allow, it looks for fewer new slabs. Its only error is want of memory.

@@ -27,7 +27,7 @@ use Rattle.slab_sweep.specs.Made.{IsMade, IsFound, IsNothing, IsCut}
 
 pub made_of : (m : Mill) (old new : Search) (s : MarkedSteps) → IsFinished m old → IsTightened m old new → ((limits : Limits) → IsWhole m (ShowsCoverUnlessBare m limits) limits new.nodes → IsTightRefutation m limits s) → IsMade m (tree_opening old) (limits_of old) s
 made_of m old new s done tight shows =
-    let same : limits_of new ≡ limits_of old = λ i. record { loss = tight.loss i; count = tight.count i } in
+    let same : limits_of new ≡ limits_of old = λ i. record { loss = tight.same.loss i; count = tight.same.count i } in
     record {
       tight = shows (limits_of old) (subst (λ (l : Limits). IsWhole m (ShowsCoverUnlessBare m l) l new.nodes) same tight.tight.whole);
       falls = done.limits.falls;
@@ -106,7 +106,7 @@ module _ (m : Mill) (count : Option ℤ) (best : Option Plan) (first last : Sear
   pub nothing_of : (s : MarkedSteps) → EndsNoPlan m first last → IsMade m (tree_opening last) (limits_of last) s → IsNothing m (opening_of m count best) s
   nothing_of s ends made = record { none = subst (λ (c : Option ℤ). HasNoPlan m c) counts ends.none; tree = made_for None s ends.loss made }
 
-  pub cut_of : (limit : ℕ) (rest : List (Option Ask)) (old new : Tally) → (ends : EndsBudget m limit last) → (HasBareEnd last → HasCause old new) → IsCutTree m (tree_opening last) limit (bare_count last.nodes) ends.tree.bare last.path rest → IsCut m (opening_of m count best) limit (bare_count last.nodes) old new rest
+  pub cut_of : (limit : ℕ) (rest : List (Option Ask)) (old new : Tally) → (ends : EndsBudget m limit first last) → (HasBareEnd last → HasCause old new) → IsCutTree m (tree_opening last) limit (bare_count last.nodes) ends.tree.bare last.path rest → IsCut m (opening_of m count best) limit (bare_count last.nodes) old new rest
   cut_of limit rest old new ends bare_end cut = record {
     bare_end = ends.tree.bare;
     path = last.path;

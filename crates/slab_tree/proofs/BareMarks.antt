@@ -16,10 +16,10 @@ use Rattle.slab_tree.specs.declared.node.Node.TheVariants.{Closed, Branched}
 use Rattle.slab_tree.specs.Counts.{Counts, AreRaised}
 use Rattle.slab_tree.specs.Marking.{is_bare, bare_marks}
 use Rattle.slab_tree.specs.Remainders.{after_trees}
-use Rattle.slab_tree.specs.Rewriting.{HasRoom, IsTallied, AreKept, IsNoted}
+use Rattle.slab_tree.specs.Rewriting.{IsTallied, AreKept, IsNoted}
 use Rattle.slab_tree.specs.Searches.{Search, bare_count}
 use Rattle.slab_tree.specs.Stepping.{IsClosed, IsBranched}
-use Rattle.slab_tree.specs.Tightening.{covered_count, MayCountBare}
+use Rattle.slab_tree.specs.Tightening.{covered_count, HasRoom, MayCountBare}
 use Rattle.slab_tree.specs.Unfinished.{marks_in}
 use Rattle.slab_tree.proofs.Gains.{closed_bares, bare_branched}
 use Rattle.slab_relax.proofs.Counting.{causes_same, causes_more}
@@ -60,8 +60,8 @@ after_fewer (suc k) (Branched ask mark ∷ ns) =
     (omega (arith, h.0, bare-cons ask mark ns), omega (arith, h.1, covered-cons ask mark ns))
 
 -- a leaf was written, and nodes were read that may have been bare
-tallied_leaf : (n : Counts) (first last before after : List Node) → bare_count last ≡ bare_count first → bare_count after ≤ bare_count before → IsTallied n n first last before after
-tallied_leaf n first last before after e le = record { no_more = omega arith; counted = inl (omega arith) }
+tallied_leaf : (n : Counts) (first last before after : List Node) → bare_count last ≡ bare_count first → bare_count after ≤ bare_count before → covered_count after ≤ covered_count before → IsTallied n n first last before after
+tallied_leaf n first last before after e bares covers = record { no_more = omega arith; once = omega arith; counted = inl (omega arith) }
 
 fewer_room : (n : Counts) (before after : List Node) → covered_count after ≤ covered_count before → HasRoom n before → HasRoom n after
 fewer_room n before after le (inl last) = inl last
@@ -73,10 +73,10 @@ module _ (n : Counts) (old new : Search) (p : Prices) (closed : IsClosed p old n
   leaf_bares = closed_bares p old new (next_branch old.path) closed
 
   pub leaf_tallied : (q : Prices) (rest : List Node) → IsTallied n n old.nodes new.nodes (Closed q ∷ rest) rest
-  leaf_tallied q rest = tallied_leaf n old.nodes new.nodes (Closed q ∷ rest) rest leaf_bares (omega arith)
+  leaf_tallied q rest = tallied_leaf n old.nodes new.nodes (Closed q ∷ rest) rest leaf_bares (omega arith) (omega arith)
 
   pub refuted_tallied : (ask : Ask) (mark : Mark) (before after : List Node) → after ≡ after_trees 2 before → IsTallied n n old.nodes new.nodes (Branched ask mark ∷ before) after
-  refuted_tallied ask mark before after e = tallied_leaf n old.nodes new.nodes (Branched ask mark ∷ before) after leaf_bares (omega (arith, bare-cons ask mark before, (after_fewer 2 before).0, ap bare_count e))
+  refuted_tallied ask mark before after e = tallied_leaf n old.nodes new.nodes (Branched ask mark ∷ before) after leaf_bares (omega (arith, bare-cons ask mark before, (after_fewer 2 before).0, ap bare_count e)) (omega (arith, covered-cons ask mark before, (after_fewer 2 before).1, ap covered_count e))
 
 pub leaf_room : (n : Counts) (p : Prices) (rest : List Node) → HasRoom n (Closed p ∷ rest) → HasRoom n rest
 leaf_room n p rest h = fewer_room n (Closed p ∷ rest) rest (omega arith) h
@@ -92,18 +92,18 @@ below_or_not a b = elim (cases_lt a b) [ inl lt ↦ inl (lt, grind (arith, nat_t
 module _ (n k : Counts) (first last rest : List Node) (ask : Ask) (mark : Mark) where
   note : (b c : Bool) → is_bare mark ≡ c → bare_count last ≡ bare_count first + cond b 1 0 → IsNoted b c n k → HasRoom n (Branched ask mark ∷ rest) → IsTallied n k first last (Branched ask mark ∷ rest) rest × HasRoom k rest
   note true true e f h room = (
-    record { no_more = omega (arith, ap (λ (x : Counts). x.bare) h); counted = inl (omega (arith, ap (λ (x : Counts). x.bare) h, bare-cons ask mark rest, ap (λ b. cond {A = ℕ} b 1 0) e)) },
+    record { no_more = omega (arith, ap (λ (x : Counts). x.bare) h); once = omega (arith, ap (λ (x : Counts). x.bare) h, covered-cons ask mark rest); counted = inl (omega (arith, ap (λ (x : Counts). x.bare) h, bare-cons ask mark rest, ap (λ b. cond {A = ℕ} b 1 0) e)) },
     subst (λ (x : Counts). HasRoom x rest) (sym h) (fewer_room n (Branched ask mark ∷ rest) rest (omega (arith, covered-cons ask mark rest)) room),
   )
   note false c e f h room = (
-    record { no_more = omega (arith, ap (λ (x : Counts). x.bare) h); counted = inl (omega (arith, ap (λ (x : Counts). x.bare) h, bare-cons ask mark rest)) },
+    record { no_more = omega (arith, ap (λ (x : Counts). x.bare) h); once = omega (arith, ap (λ (x : Counts). x.bare) h, covered-cons ask mark rest); counted = inl (omega (arith, ap (λ (x : Counts). x.bare) h, bare-cons ask mark rest)) },
     subst (λ (x : Counts). HasRoom x rest) (sym h) (fewer_room n (Branched ask mark ∷ rest) rest (omega (arith, covered-cons ask mark rest)) room),
   )
   note true false e f h room = elim (below_or_not n.bare n.opened) [
     | inl below ↦ (let bare : k.bare ≡ n.bare + 1 = ap (λ (x : Counts). x.bare) h ∙ ap (λ b. cond {A = ℕ} b (n.bare + 1) n.bare) below.1 in
-        (record { no_more = omega arith; counted = inl (omega (arith, bare-cons ask mark rest, bare)) }, counted_room bare room))
+        (record { no_more = omega arith; once = omega (arith, covered); counted = inl (omega (arith, bare-cons ask mark rest, bare)) }, counted_room bare room))
     | inr full ↦ (let bare : k.bare ≡ n.bare = ap (λ (x : Counts). x.bare) h ∙ ap (λ b. cond {A = ℕ} b (n.bare + 1) n.bare) full.1 in
-        (record { no_more = omega arith; counted = full_counted bare full.0 room }, full_room bare full.0 room))
+        (record { no_more = omega arith; once = omega (arith, covered); counted = full_counted bare full.0 room }, full_room bare full.0 room))
   ]
     where
       opened : k.opened ≡ n.opened
@@ -172,7 +172,7 @@ kept_causes old new s t ask shown rises cause h = by (is_bare shown) cause (bran
 -- ---- one step after another
 
 pub tallied_trans : (a b c : Counts) (f l z x y w : List Node) → b.bare ≤ c.bare → IsTallied a b f l x y → IsTallied b c l z y w → IsTallied a c f z x w
-tallied_trans a b c f l z x y w rises h k = record { no_more = omega arith; counted = by h.counted k.counted }
+tallied_trans a b c f l z x y w rises h k = record { no_more = omega arith; once = omega (arith, h.once, k.once); counted = by h.counted k.counted }
   where
     by : (bare_count l + bare_count y + a.bare ≤ bare_count f + bare_count x + b.bare) ⊎ (last_count ≤ b.bare) → (bare_count z + bare_count w + b.bare ≤ bare_count l + bare_count y + c.bare) ⊎ (last_count ≤ c.bare) → (bare_count z + bare_count w + a.bare ≤ bare_count f + bare_count x + c.bare) ⊎ (last_count ≤ c.bare)
     by (inl u) (inl v) = inl (omega arith)

@@ -25,9 +25,9 @@ use Rattle.slab_tree.specs.declared.tree.Ended.TheVariants.{Least, NoPlan, Budge
 use Rattle.slab_tree.specs.Marking.{MarkRule, HasCoverUnlessBare, HoldsCover, bare_marks}
 use Rattle.slab_tree.specs.Standing.{IsSplit, IsWhole, waiting}
 use Rattle.slab_tree.specs.Unfinished.{Outlined, IsUnfinished, IsCutTree, ask_of, marks_in}
-use Rattle.slab_tree.specs.Searches.{Search, limits_of, opening_of, loss_below, IsBest, IsRunning, IsFinished, IsRefused, HasLimitsBelow, HasBareEnd, IsLeast, KeepsBest, EndsLeast, EndsNoPlan, EndsBudget, IsEnded, IsAnswer, IsSameQuestion, outline_of, bare_count}
-use Rattle.slab_tree.specs.Stepping.{IsLater, IsComplete, IsOver, IsFinish}
-use Rattle.slab_tree.proofs.Limits.{holds_cover, not_below}
+use Rattle.slab_tree.specs.Searches.{Search, limits_of, opening_of, loss_below, IsBest, IsRunning, IsFinished, IsRefused, HasLimitsBelow, HasBareEnd, IsLeast, KeepsBest, EndsLeast, EndsNoPlan, EndsBudget, IsEnded, IsAnswer, IsLater, IsSameQuestion, outline_of, bare_count}
+use Rattle.slab_tree.specs.Stepping.{IsComplete, IsOver, IsFinish}
+use Rattle.slab_tree.proofs.Limits.{cover_greater, holds_cover, not_below}
 use Rattle.slab_tree.proofs.Outlines.{IsOutlineAt, opens, outline_count, few_outlined, open_tree_of, graft}
 use Rattle.slab_tree.proofs.Standing.{lean}
 
@@ -129,7 +129,7 @@ module _ (m : Mill) (limit : ℕ) (first old new : Search) (later : IsLater m fi
   ended (inl done) e finish = finished e done old.best refl (subst (λ (f : Phase). IsFinish f old.best old new e) done.tree.finished finish)
   ended (inr refused) e finish =
       let h : (e ≡ Budget) × (new ≡ old) = refused_answer refused e finish in
-      subst (λ (x : Ended). IsEnded m limit first new x) (sym h.0) (subst (λ (t : Search). EndsBudget m limit t) (sym h.1) (record { tree = refused; below = omega (arith, few_refused m limit old refused, refused.full, refused.within) }))
+      subst (λ (x : Ended). IsEnded m limit first new x) (sym h.0) (subst (λ (t : Search). EndsBudget m limit first t) (sym h.1) (record { tree = refused; later = later; below = omega (arith, few_refused m limit old refused, refused.full, refused.within) }))
 
   kept_ended : IsOver m limit old → (e : Ended) → IsFinish old.phase old.best old new e → IsHandedOut old new
   kept_ended (inl done) e finish = by old.best (subst (λ (f : Phase). IsFinish f old.best old new e) done.tree.finished finish)
@@ -191,5 +191,5 @@ cut_tree m limit t r =
       covered = covered_splits m (opening_of t) o.tree [] o.unfinished.splits;
       bare_splits = ap bare_marks (o.marks_are ∙ append-nil (marks_in t.nodes));
       has_end = o.ends t.path refl;
-      covered_end = r.covered;
+      covered_end = λ shown. cover_greater m (limits_of t) (opening_of t) t.path r.search.limits.falls (r.covered shown);
     }

@@ -19,8 +19,8 @@ use Rattle.slab_tree.specs.declared.node.Node.TheVariants.{Closed, Branched}
 use Rattle.slab_tree.specs.declared.tree.Phase.TheVariants.{Done, Refused}
 use Rattle.slab_tree.specs.Marking.{is_bare, HoldsCover}
 use Rattle.slab_tree.specs.Standing.{Stands, IsWhole, GoesOn, waiting}
-use Rattle.slab_tree.specs.Searches.{Search, limits_of, opening_of, loss_below, IsRunning, HasLimitsBelow}
-use Rattle.slab_tree.specs.Stepping.{HasBegun, after_leaf, IsClosed, IsBranched, fall_room, IsLater, GoesOnFrom, IsComplete, IsOver, IsStepped, IsSplitUnder, IsSteppedBy, IsClosedAtOnce}
+use Rattle.slab_tree.specs.Searches.{Search, limits_of, opening_of, loss_below, IsLater, IsRunning, HasLimitsBelow}
+use Rattle.slab_tree.specs.Stepping.{MayHaveLowered, after_leaf, IsClosed, IsBranched, fall_room, GoesOnFrom, IsComplete, IsOver, IsStepped, IsSplitUnder, IsSteppedBy, IsClosedAtOnce}
 use Rattle.slab_tree.proofs.Limits.{at_most_refl, at_most_trans, holds_greater, holds_cover}
 use Rattle.slab_tree.proofs.Plainly.{none_within}
 use Rattle.slab_tree.proofs.Standing.{closes_leaf, splits_at, waiting_next, none_waits, stands_smaller}
@@ -138,7 +138,7 @@ module _ (m : Mill) (limit : ℕ) (old new : Search) (run : IsRunning m old) (ro
           full = h.0;
           ask = ask;
           asks = opened;
-          covered = holds_cover m (opening_of old) mark old.path (holds_greater m (limits_of old) (opening_of old) mark old.path run.search.limits.falls covered);
+          covered = holds_cover m (limits_of old) mark old.path covered;
         }),
         same_later m old _ refl refl refl refl,
       )
@@ -191,18 +191,17 @@ module _ (m : Mill) (limit : ℕ) (old new : Search) (run : IsRunning m old) (ro
       )
 
 -- a plan within the limits is taken
-pub begun_by : (m : Mill) (old new : Search) (p : Plan) → IsRunning m old → IsInLimits m → IsFoundPlan m (limits_of old) p → (sums_of m p).loss < 2 ^ 32 → new ≡ record old { loss = loss_below m p; best = Some p } → HasBegun m old new
-begun_by m old new p run limited found small h =
+pub lowered_by : (m : Mill) (old new : Search) (p : Plan) → IsRunning m old → IsInLimits m → IsFoundPlan m (limits_of old) p → (sums_of m p).loss < 2 ^ 32 → new ≡ record old { loss = loss_below m p; best = Some p } → MayHaveLowered m old new
+lowered_by m old new p run limited found small h =
     let w : GoesOnFrom m old.opened old new × IsLater m old new = lower_step m old.opened old new run (omega arith) p found small h in
     record {
       running = w.0.running;
       later = w.1;
-      path = ap (λ (t : Search). t.path) h;
       nodes = ap (λ (t : Search). t.nodes) h;
       opened = ap (λ (t : Search). t.opened) h;
       plain = λ refuted. absurd (none_within m (limits_of old) p limited refuted found.legal found.within);
     }
 
 -- no plan is taken
-pub begun_same : (m : Mill) (t : Search) → IsRunning m t → HasBegun m t t
-begun_same m t run = record { running = run; later = later_refl m t; path = refl; nodes = refl; opened = refl; plain = λ refuted. refl }
+pub lowered_same : (m : Mill) (t : Search) → IsRunning m t → MayHaveLowered m t t
+lowered_same m t run = record { running = run; later = later_refl m t; nodes = refl; opened = refl; plain = λ refuted. refl }

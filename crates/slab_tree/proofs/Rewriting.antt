@@ -21,9 +21,9 @@ use Rattle.slab_tree.specs.declared.node.Node.TheVariants.{Closed, Branched}
 use Rattle.slab_tree.specs.declared.tree.Phase.TheVariants.{Running, Done}
 use Rattle.slab_tree.specs.Marking.{MarkRule, HoldsCover, ShowsCoverUnlessBare}
 use Rattle.slab_tree.specs.Remainders.{after_trees}
-use Rattle.slab_tree.specs.Rewriting.{AreToCome, IsAtTree, IsRewriting, IsRewritten, IsWalk, IsSameTree, MovesOn}
+use Rattle.slab_tree.specs.Rewriting.{AreToCome, IsAtTree, IsRewriting, IsRewritten, IsWalk, MovesOn}
 use Rattle.slab_tree.specs.Searches.{Search, limits_of, opening_of, IsFinished, HasLimitsBelow}
-use Rattle.slab_tree.specs.Tightening.{IsTightened}
+use Rattle.slab_tree.specs.Tightening.{IsSameTree, IsTightened}
 use Rattle.slab_tree.specs.Standing.{IsDone, IsWhole, GoesOn, Stands, nodes_of}
 use Rattle.slab_tree.specs.Stepping.{after_leaf, IsClosed, IsBranched}
 use Rattle.slab_tree.proofs.Remainders.{after_two}
@@ -219,9 +219,6 @@ tightened m first t new rest same limits fewer h e = subst (λ (x : Search). IsT
     whole = h.whole;
     opened = refl;
   };
-  count = same.count;
-  opening = same.opening;
-  loss = same.loss;
-  best = same.best;
+  same = record { count = same.count; opening = same.opening; loss = same.loss; best = same.best };
   fewer = fewer;
 })

@@ -2,19 +2,20 @@
 use Rattle.std.proofs.Common.{◌≡◌, ℕ, ◌≤◌, List, [], Option, refl, sym, ap, subst, ◌∙◌, arith, inl, inr, length}
 use Rattle.std.specs.Prelude.{◌⊎◌}
 use Rattle.slab_counter.specs.Counter.{last_count}
+use Rattle.mill_model.specs.declared.limits.Limits.{Limits}
 use Rattle.mill_model.specs.Mill.{Mill}
+use Rattle.mill_model.specs.Plain.{IsPlainlyRefuted}
 use Rattle.mill_model.specs.Decisions.{Decision}
 use Rattle.slab_tree.specs.declared.node.Node.{Node}
 use Rattle.slab_tree.specs.declared.tree.Phase.{Phase}
 use Rattle.slab_tree.specs.declared.tree.Phase.TheVariants.{New, Running}
-use Rattle.slab_tree.specs.declared.tree.Ended.{Ended}
-use Rattle.slab_tree.specs.declared.tree.Ended.TheVariants.{Least, NoPlan, Budget}
 use Rattle.slab_tree.specs.Counts.{Counts}
 use Rattle.slab_tree.specs.Marking.{HoldsCover}
 use Rattle.slab_tree.specs.Standing.{Stands, waiting}
-use Rattle.slab_tree.specs.Searches.{Search, limits_of, opening_of, IsNew, IsRunning, IsReady, IsEnded, IsSameQuestion, bare_count}
-use Rattle.slab_tree.specs.Stepping.{IsStarted, HasRoot}
-use Rattle.slab_tree.proofs.Counts.{raised_none}
+use Rattle.slab_tree.specs.Searches.{Search, limits_of, opening_of, IsNew, IsRunning, IsReady, IsLater, IsSearch, bare_count}
+use Rattle.slab_tree.specs.Stepping.{IsStarted, HasRoot, HasBegun, MayHaveLowered}
+use Rattle.slab_tree.proofs.Counts.{raised_none, raised_same}
+use Rattle.slab_tree.proofs.Moves.{later_trans, same_later}
 
 module _ (m : Mill) (old new : Search) (n k : Counts) (some : 1 ≤ n.limit) (room : old.opened ≤ n.limit) (small : n.opened ≤ last_count) (fewer : n.bare ≤ n.opened) where
   begins : IsNew m old → IsStarted New old new n k → HasRoot m old new n k
@@ -54,11 +55,35 @@ module _ (m : Mill) (old new : Search) (n k : Counts) (some : 1 ≤ n.limit) (ro
   has_root (inl is) h = begins is (subst (λ (f : Phase). IsStarted f old new n k) is.unstarted h)
   has_root (inr run) h = goes_on run (subst (λ (f : Phase). IsStarted f old new n k) run.running h)
 
--- a run's answer speaks of what the beginning kept
-pub ended_from : (m : Mill) (limit : ℕ) (a b final : Search) → b.count ≡ a.count → b.opening ≡ a.opening → b.best ≡ a.best → (e : Ended) → IsEnded m limit b final e → IsEnded m limit a final e
-ended_from m limit a b final p q r e h = by e (subst (λ (t : Search). IsEnded m limit t final e) (λ i. record b { count = p i; opening = q i; best = r i }) h)
-  where
-    by : (e : Ended) → IsEnded m limit (record b { count = a.count; opening = a.opening; best = a.best }) final e → IsEnded m limit a final e
-    by (Least p) h = record { least = h.least; keeps = h.keeps; tree = h.tree; loss = h.loss }
-    by NoPlan h = record { none = h.none; tree = h.tree; loss = h.loss }
-    by Budget h = h
+-- what the root leaves as it was
+root_limits : (m : Mill) (old new : Search) (n k : Counts) → HasRoot m old new n k → limits_of new ≡ limits_of old
+root_limits m old new n k root = λ i. record { loss = root.loss i; count = root.count i }
+
+root_later : (m : Mill) (old new : Search) (n k : Counts) → HasRoot m old new n k → IsLater m old new
+root_later m old new n k root = same_later m old new root.count root.opening root.loss root.best
+
+-- no plan was taken
+pub begun_at : (m : Mill) (old new : Search) (n k : Counts) → HasRoot m old new n k → HasBegun m old new n k
+begun_at m old new n k root = record {
+  running = root.running;
+  room = omega (arith, root.room, root.limit);
+  later = root_later m old new n k root;
+  nodes = root.nodes;
+  counts = root.counts;
+  plain = λ refuted. root_limits m old new n k root;
+}
+
+-- a plan may have been taken
+pub begun_after : (m : Mill) (old root new : Search) (n k : Counts) → HasRoot m old root n k → MayHaveLowered m root new → HasBegun m old new n k
+begun_after m old root new n k at lowered = record {
+  running = lowered.running;
+  room = omega (arith, at.room, at.limit, lowered.opened);
+  later = later_trans m old root new (root_later m old root n k at) lowered.later;
+  nodes = lowered.nodes ∙ at.nodes;
+  counts = raised_same n k old.opened root.opened new.opened (bare_count old.nodes) (bare_count root.nodes) (bare_count new.nodes) (sym lowered.opened) (sym (ap bare_count lowered.nodes)) at.counts;
+  plain = λ refuted. ap limits_of (lowered.plain (subst (λ (l : Limits). IsPlainlyRefuted m l) (sym (root_limits m old root n k at)) refuted)) ∙ root_limits m old root n k at;
+}
+
+pub search_of : (m : Mill) (t : Search) → IsReady m t → IsSearch m t
+search_of m t (inl is) = is.search
+search_of m t (inr run) = run.search

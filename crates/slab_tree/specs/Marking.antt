@@ -25,13 +25,13 @@ bare_marks marks = count_by is_bare marks
 abbrev pub HasCoverUnlessBare : Mill → Limits → MarkRule
 HasCoverUnlessBare m limits mark decisions = is_bare mark ≡ false → HasCover m limits decisions
 
--- the same, and where the mark shows a cover, it is one
+-- a cover that is shown is one; a plain mark claims one
 abbrev pub HoldsCover : Mill → Limits → MarkRule
 HoldsCover m limits (Spread shown) decisions = IsShown m limits decisions shown
 HoldsCover m limits Bare decisions = Unit {0}
 HoldsCover m limits Plain decisions = HasCover m limits decisions
 
--- the mark shows such a cover, or is bare
+-- the mark shows a cover within the limits, or is bare
 abbrev pub ShowsCoverUnlessBare : Mill → Limits → MarkRule
 ShowsCoverUnlessBare m limits (Spread shown) decisions = IsShown m limits decisions shown
 ShowsCoverUnlessBare m limits Bare decisions = Unit {0}

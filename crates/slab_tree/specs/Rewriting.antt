@@ -4,17 +4,23 @@ use Rattle.mill_model.specs.declared.ask.Ask.{Ask}
 use Rattle.mill_model.specs.declared.limits.Limits.{Limits}
 use Rattle.mill_model.specs.declared.mark.Mark.{Mark}
 use Rattle.mill_model.specs.Mill.{Mill}
-use Rattle.mill_model.specs.Prices.{Prices}
+use Rattle.mill_model.specs.Plans.{Plan}
+use Rattle.mill_model.specs.Prices.{Prices, Refutes}
 use Rattle.mill_model.specs.Decisions.{Decision}
 use Rattle.mill_model.specs.Trees.{Tree}
 use Rattle.slab_counter.specs.Counter.{last_count}
+use Rattle.slab_relax.specs.declared.tally.Tally.{Tally}
+use Rattle.slab_relax.specs.Tallies.{HasCause}
+use Rattle.slab_node.specs.Turns.{IsInBox}
 use Rattle.slab_tree.specs.declared.node.Node.{Node}
 use Rattle.slab_tree.specs.declared.tree.Phase.TheVariants.{Running, Done}
+use Rattle.slab_tree.specs.declared.tree.tighten.Renewed.{Renewed}
+use Rattle.slab_tree.specs.declared.tree.tighten.Renewed.TheVariants.{Leaf, Split}
 use Rattle.slab_tree.specs.Counts.{Counts, noted_bare}
 use Rattle.slab_tree.specs.Marking.{MarkRule, HoldsCover, ShowsCoverUnlessBare, is_bare}
 use Rattle.slab_tree.specs.Searches.{Search, limits_of, opening_of, bare_count}
 use Rattle.slab_tree.specs.Standing.{IsDone, IsWhole, Stands, nodes_of}
-use Rattle.slab_tree.specs.Tightening.{covered_count}
+use Rattle.slab_tree.specs.Tightening.{IsSameTree, covered_count}
 
 -- the branches for no that wait on the path come next, one after another
 pub record BranchesComeNext (m : Mill) (Rule : MarkRule) (limits : Limits) (ask : Ask) (path : List Decision) (Later : List Node → Type 0) (nodes : List Node) : Type 0 where
@@ -52,13 +58,6 @@ pub record IsRewritten (m : Mill) (t : Search) (rest : List Node) : Type 0 where
 abbrev pub IsWalk : Mill → Search → List Node → Type 0
 IsWalk m t rest = IsRewriting m t rest ⊎ IsRewritten m t rest
 
--- the question stays
-pub record IsSameTree (old new : Search) : Type 0 where
-  pub count : new.count ≡ old.count
-  pub opening : new.opening ≡ old.opening
-  pub loss : new.loss ≡ old.loss
-  pub best : new.best ≡ old.best
-
 -- a step of the walk: the node that was read is done with
 pub record MovesOn (m : Mill) (old new : Search) (node : Node) (before after : List Node) : Type 0 where
   pub same : IsSameTree old new
@@ -71,15 +70,21 @@ pub record StillShows (m : Mill) (t : Search) (mark : Mark) : Type 0 where
   pub covered : is_bare mark ≡ false
   pub shows : (decisions : List Decision) → HoldsCover m (opening_of t) mark decisions → ShowsCoverUnlessBare m (limits_of t) mark decisions
 
--- ---- the counts
+-- no plan within the limits agrees with the decisions
+abbrev pub HasNoPlanAt : Mill → Limits → List Decision → Type 0
+HasNoPlanAt m limits path = (p : Plan) → IsInBox m limits path p → ⊥
 
--- each split that is left, and that isn't counted as bare, may still be
-abbrev pub HasRoom : Counts → List Node → Type 0
-HasRoom n rest = (last_count ≤ n.opened) ⊎ (n.bare + covered_count rest ≤ n.opened)
+-- what a split becomes: a leaf, whose prices refute the limits, or a split again, which shows a cover unless a cause made it bare
+abbrev pub IsRenewed : Mill → Limits → List Decision → Tally → Tally → Renewed → Type 0
+IsRenewed m limits path before after (Leaf prices) = Refutes m limits path prices
+IsRenewed m limits path before after (Split mark) = ShowsCoverUnlessBare m limits mark path × (is_bare mark ≡ true → HasCause before after)
+
+-- ---- the counts
 
 -- What was counted while nodes were read from `before` to `after`, and written from `first` to `last`.
 pub record IsTallied (old new : Counts) (first last before after : List Node) : Type 0 where
   pub no_more : new.bare + bare_count first ≤ old.bare + bare_count last
+  pub once : new.bare + covered_count after ≤ old.bare + covered_count before
   pub counted : (bare_count last + bare_count after + old.bare ≤ bare_count first + bare_count before + new.bare) ⊎ (last_count ≤ new.bare)
 
 -- what the counts do at each step

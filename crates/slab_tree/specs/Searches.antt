@@ -1,5 +1,5 @@
 -- One question's tree as contracts see it, and what is known of it at each moment.
-use Rattle.std.specs.Prelude.{◌≡◌, ℕ, ℤ, pos, ◌+◌, ◌-◌, ◌-ℤ◌, ◌<◌, ◌≤◌, ◌⊎◌, Bool, true, false, List, [], ◌++◌, length, map, replicate, Option, Some, None}
+use Rattle.std.specs.Prelude.{◌≡◌, ℕ, ℤ, pos, ◌+◌, ◌-◌, ◌-ℤ◌, ◌<◌, ◌≤◌, ◌⊎◌, Bool, true, false, List, [], ◌++◌, length, map, replicate, Option, Some, None, IsSomeAnd}
 use Rattle.mill_model.specs.declared.ask.Ask.{Ask}
 use Rattle.mill_model.specs.declared.limits.Limits.{Limits}
 use Rattle.mill_model.specs.Mill.{Mill}
@@ -106,7 +106,8 @@ pub record IsRefused (m : Mill) (limit : ℕ) (t : Search) : Type 0 where
   -- the question of the refused split
   pub ask : Ask
   pub asks : IsOpenAsk m t.path ask
-  pub covered : bare ≡ false → HasCover m (opening_of t) t.path
+  -- no prices refute the present limits there, unless the split is bare
+  pub covered : bare ≡ false → HasCover m (limits_of t) t.path
 
 -- the split that was refused is bare
 abbrev pub HasBareEnd : Search → Type 0
@@ -137,15 +138,23 @@ pub record EndsNoPlan (m : Mill) (old new : Search) : Type 0 where
   pub tree : IsFinished m new
   pub loss : new.loss ≡ None
 
+-- what stays, and that the best plan is replaced by better ones alone
+pub record IsLater (m : Mill) (old new : Search) : Type 0 where
+  pub count : new.count ≡ old.count
+  pub opening : new.opening ≡ old.opening
+  pub loss : AtMost new.loss old.loss
+  pub best : (new.best ≡ old.best) ⊎ IsSomeAnd new.best (λ p. AtMost (Some (pos (sums_of m p).loss)) old.loss)
+
 -- the limit that was passed is below the most nodes that any tree has
-pub record EndsBudget (m : Mill) (limit : ℕ) (new : Search) : Type 0 where
+pub record EndsBudget (m : Mill) (limit : ℕ) (old new : Search) : Type 0 where
   pub tree : IsRefused m limit new
+  pub later : IsLater m old new
   pub below : limit + 2 ≤ most_nodes m
 
 abbrev pub IsEnded : Mill → ℕ → Search → Search → Ended → Type 0
 IsEnded m limit old new (Least p) = EndsLeast m old new p
 IsEnded m limit old new NoPlan = EndsNoPlan m old new
-IsEnded m limit old new Budget = EndsBudget m limit new
+IsEnded m limit old new Budget = EndsBudget m limit old new
 
 -- it isn't Budget
 abbrev pub IsAnswer : Ended → Type 0

@@ -17,7 +17,7 @@ pub record IsSplit (m : Mill) (Rule : MarkRule) (mark : Mark) (ask : Ask) (decis
   pub opened : IsOpenAsk m decisions ask
   pub marked : Rule mark decisions
 
--- a finished part of a tree: its leaves refute the limits, each split is as above
+-- a finished part of a tree: its leaves refute the limits, each split is as IsSplit says
 pub record IsDone (m : Mill) (Rule : MarkRule) (limits : Limits) (t : Tree Mark Prices) (decisions : List Decision) : Type 0 where
   pub refutes : RefutingTree m limits t decisions
   pub splits : EverySplit (IsSplit m Rule) t decisions

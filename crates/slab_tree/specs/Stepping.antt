@@ -17,8 +17,9 @@ use Rattle.slab_tree.specs.declared.tree.Phase.{Phase}
 use Rattle.slab_tree.specs.declared.tree.Phase.TheVariants.{New, Running, Done, Refused}
 use Rattle.slab_tree.specs.declared.tree.Ended.{Ended}
 use Rattle.slab_tree.specs.declared.tree.Ended.TheVariants.{Least, NoPlan, Budget}
+use Rattle.slab_tree.specs.declared.workplace.Workplace.{Workplace}
 use Rattle.slab_tree.specs.Marking.{is_bare}
-use Rattle.slab_tree.specs.Searches.{Search, IsRunning, IsSearch, IsFinished, IsRefused, bare_count, limits_of}
+use Rattle.slab_tree.specs.Searches.{Search, IsLater, IsRunning, IsSearch, IsFinished, IsRefused, AreRaisedBy, bare_count, limits_of}
 
 -- ---- the moves
 
@@ -53,13 +54,18 @@ IsFinish (Refused bare) best old new e = (e ≡ Budget) × (new ≡ old)
 IsFinish Done None old new e = (e ≡ NoPlan) × (new ≡ old)
 IsFinish Done (Some p) old new e = (e ≡ Least p) × (new ≡ record old { best = None })
 
--- what a step stands on: the sizes and the pool are those of the mill, and the decisions those above the next node
+-- what a walk through an old tree stands on: the sizes and the pool are those of the mill, and the decisions those above the next node
 pub record IsWorkplace (m : Mill) (listed : List ℕ) (columns : Pool) (decisions : Decisions) (path : List Decision) : Type 0 where
   pub sizes : listed ≡ m.sizes
   pub pool : columns.mill ≡ m
   pub orders : decisions.orders ≡ length m.orders
   pub yard : decisions.yard ≡ length m.yard
   pub list : decisions.list ≡ path
+
+-- what a step stands on: the pool is that of the mill, and the decisions are those above the next node
+pub record IsPlaceAt (place : Workplace) (columns : Pool) (path : List Decision) : Type 0 where
+  pub pool : columns.mill ≡ place.mill.now
+  pub list : place.decisions.list ≡ path
 
 -- ---- the measure
 
@@ -75,18 +81,10 @@ rank limit t = fall_room t.loss + (limit - length t.nodes)
 
 -- ---- what a step keeps
 
--- what stays, and that the best plan is replaced by better ones alone
-pub record IsLater (m : Mill) (old new : Search) : Type 0 where
-  pub count : new.count ≡ old.count
-  pub opening : new.opening ≡ old.opening
-  pub loss : AtMost new.loss old.loss
-  pub best : (new.best ≡ old.best) ⊎ IsSomeAnd new.best (λ p. AtMost (Some (pos (sums_of m p).loss)) old.loss)
-
 -- a better plan may have been taken, and nothing else was
-pub record HasBegun (m : Mill) (old new : Search) : Type 0 where
+pub record MayHaveLowered (m : Mill) (old new : Search) : Type 0 where
   pub running : IsRunning m new
   pub later : IsLater m old new
-  pub path : new.path ≡ old.path
   pub nodes : new.nodes ≡ old.nodes
   pub opened : new.opened ≡ old.opened
   pub plain : IsPlainlyRefuted m (limits_of old) → new ≡ old
@@ -131,3 +129,17 @@ pub record HasRoot (m : Mill) (old new : Search) (n k : Counts) : Type 0 where
   pub loss : new.loss ≡ old.loss
   pub nodes : new.nodes ≡ old.nodes
   pub counts : AreRaised n k old.opened new.opened (bare_count old.nodes) (bare_count new.nodes)
+
+-- the root stands, and a better plan may have been taken
+pub record HasBegun (m : Mill) (old new : Search) (n k : Counts) : Type 0 where
+  pub running : IsRunning m new
+  pub room : new.opened ≤ n.limit
+  pub later : IsLater m old new
+  pub nodes : new.nodes ≡ old.nodes
+  pub counts : AreRaisedBy n k old new
+  pub plain : IsPlainlyRefuted m (limits_of old) → limits_of new ≡ limits_of old
+
+-- the limits are those of the beginning, and no node is decided
+pub record IsAtRoot (old new : Search) : Type 0 where
+  pub limits : limits_of new ≡ limits_of old
+  pub none : new.nodes ≡ []

@@ -12,10 +12,9 @@ ghost use Rattle.slab_node.specs.Turns.{IsNode, IsTurn, IsRefuted, IfSpread};
 ghost use Rattle.slab_tree.specs.Bounding.{IsPaidFor};
 
 use crate::guide::Guide;
-use loss_table::LossTable;
+use crate::workplace::Workplace;
 use mill_model::{Limits, Mill, Prices};
 use slab_columns::Pool;
-use slab_decide::Decisions;
 use slab_node::{Tally, Turned, turn};
 use std::alloc::{AllocError, Global};
 
@@ -29,33 +28,46 @@ const MOST_LOSS: i64 = 2_500_000;
 // refute the limits: the aim is then raised to the least loss that they leave. Its answer is one for the limits themselves.
 pub(crate) fn bounded_turn(
     alloc: Global,
-    mill: &Mill,
-    table: &LossTable,
-    decisions: &Decisions,
+    place: &Workplace<'_>,
     guide: &mut Guide,
     limits: Limits,
     pool: &mut Pool,
     tally: &mut Tally,
 ) -> Result<Turned, AllocError>
-    requires { IsNode mill.now table.now decisions.now limits pool.old }
-    ensures turned { IfOk result (IsTurn mill.now limits decisions.now.list tally.old tally.new) }
-    ensures plain { IsPlainlyRefuted mill.now limits → IfOk result IsRefuted }
-    ensures cover { IfOk result (λ t. IfSpread t (IsPoolCover mill.now limits decisions.now.list pool.new.columns)) }
+    requires { IsNode place.now.mill.now place.now.table.now place.now.decisions limits pool.old }
+    ensures turned { IfOk result (IsTurn place.now.mill.now limits place.now.decisions.list tally.old tally.new) }
+    ensures plain { IsPlainlyRefuted place.now.mill.now limits → IfOk result IsRefuted }
+    ensures cover { IfOk result (λ t. IfSpread t (IsPoolCover place.now.mill.now limits place.now.decisions.list pool.new.columns)) }
     ensures counters { AreNoLess tally.old tally.new }
-    ensures mill { pool.new.mill ≡ mill.now }
-    ensures extent { guide.new ≡ guide.old }
+    ensures mill { pool.new.mill ≡ place.now.mill.now }
 {
     for _ in 0..MOST_RAISES {
         let smaller = smaller_limits(limits, guide.aim());
-        match turn(alloc, mill, table, decisions, smaller, pool, tally)? {
-            Turned::Refuted(prices) => match left_by(mill, &prices, limits) {
+        match turn(
+            alloc,
+            place.mill,
+            place.table,
+            &place.decisions,
+            smaller,
+            pool,
+            tally,
+        )? {
+            Turned::Refuted(prices) => match left_by(place.mill, &prices, limits) {
                 None => return Ok(Turned::Refuted(prices)),
                 Some(left) => guide.raise(left),
             },
             turned => return Ok(turned),
         }
     }
-    turn(alloc, mill, table, decisions, limits, pool, tally)
+    turn(
+        alloc,
+        place.mill,
+        place.table,
+        &place.decisions,
+        limits,
+        pool,
+        tally,
+    )
 }
 
 // The limits with a loss limit that isn't above the aim.

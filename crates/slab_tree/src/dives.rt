@@ -7,9 +7,9 @@ ghost use Rattle.slab_repack.specs.FoundPlans.{IsFoundPlan};
 ghost use Rattle.slab_tree.specs.Trails.{HasExtentOf};
 
 use crate::records::ONE;
-use crate::rounding::ranked;
+use crate::shares::ranked;
 use crate::trail::Trail;
-use loss_table::LossTable;
+use crate::workplace::Workplace;
 use mill_model::{Ask, Limits, Mill, Plan};
 use slab_columns::Pool;
 use slab_decide::Decisions;
@@ -27,33 +27,40 @@ const LARGE: u32 = ONE / 4 * 3;
 // A dive from a node whose decisions are the path. It answers a plan within the limits, or none, and leaves other decisions.
 pub(crate) fn dive(
     alloc: Global,
-    mill: &Mill,
-    table: &LossTable,
-    decisions: &mut Decisions,
+    place: &mut Workplace<'_>,
     path: &[(Ask, bool)],
     cover: &Cover,
     limits: Limits,
     pool: &mut Pool,
     tally: &mut Tally,
 ) -> Result<Option<Plan>, AllocError>
-    requires { IsNode mill.now table.now decisions.old limits pool.old }
-    ensures found { IfOk result (λ found. IfSome found (IsFoundPlan mill.now limits)) }
-    ensures extent { HasExtentOf mill.now decisions.new }
+    requires { IsNode place.old.mill.now place.old.table.now place.old.decisions limits pool.old }
+    ensures found { IfOk result (λ found. IfSome found (IsFoundPlan place.old.mill.now limits)) }
     ensures counters { AreNoLess tally.old tally.new }
-    ensures mill { pool.new.mill ≡ mill.now }
+    ensures pool { pool.new.mill ≡ place.old.mill.now }
+    ensures mill { place.new.mill.now ≡ place.old.mill.now }
 {
+    let mill = place.mill;
     let mut trail = Trail::new(alloc, path)?;
-    decide_columns(alloc, mill, decisions, pool, cover, &mut trail)?;
+    decide_columns(alloc, mill, &mut place.decisions, pool, cover, &mut trail)?;
     for _ in 0..MOST_TURNS {
-        match turn(alloc, mill, table, decisions, limits, pool, tally)? {
+        match turn(
+            alloc,
+            mill,
+            place.table,
+            &place.decisions,
+            limits,
+            pool,
+            tally,
+        )? {
             Turned::InBox(plan) => return Ok(Some(plan)),
             Turned::Spread(cover, ask) => {
-                if !decide_columns(alloc, mill, decisions, pool, &cover, &mut trail)? {
-                    trail.decide_ask(mill, decisions, ask)?;
+                if !decide_columns(alloc, mill, &mut place.decisions, pool, &cover, &mut trail)? {
+                    trail.decide_ask(mill, &mut place.decisions, ask)?;
                 }
             }
             Turned::Refuted(_) => {
-                if !trail.reverse(mill, decisions)? {
+                if !trail.reverse(mill, &mut place.decisions)? {
                     return Ok(None);
                 }
             }

@@ -1,21 +1,21 @@
-//! What guides a run, and what no contract rests on: at which loss a node's turn aims, and what became of branches.
+//! What guides a run: at which loss a node's turn aims, which open question is split on, and when plans are sought. Contracts rest
+//! on none of it but that the question is open and that plans are within the limits.
 
 ghost use Rattle.std.specs.Prelude.{◌≡◌, ◌⊎◌, IfOk, IfSome};
 ghost use Rattle.mill_model.specs.Limits.{AreSmaller, number_of};
 ghost use Rattle.slab_master.specs.Given.{IsSmall};
 ghost use Rattle.slab_repack.specs.FoundPlans.{IsFoundPlan};
-ghost use Rattle.slab_tree.specs.Asking.{AreThere, IsOpenAskOf, extent_of};
+ghost use Rattle.slab_tree.specs.Asking.{AreThere, IsOpenAskOf};
 
 use crate::bounding::smaller_limits;
 use crate::neighbours::Neighbours;
 use crate::questions::Questions;
+use crate::workplace::Workplace;
 use loss_table::LossTable;
 use mill_model::{Ask, Limits, Mill, Plan};
 use slab_columns::Pool;
-use slab_decide::Decisions;
 use slab_node::Cover;
 use std::alloc::{AllocError, Global};
-use std::marker::Model;
 
 // The number of dives at the first split.
 const FIRST_DIVES: u32 = 3;
@@ -39,26 +39,10 @@ pub(crate) struct Guide {
     shares: usize,
 }
 
-impl Model for Guide {
-    ghost use Rattle.slab_tree.specs.Asking.{Extent};
-
-    ghost Value = { Extent };
-
-    ghost view = { λ g. g.questions };
-}
-
 impl Guide {
-    pub(crate) fn new(
-        alloc: Global,
-        mill: &Mill,
-        table: &LossTable,
-        orders: u16,
-        yard: u16,
-    ) -> Result<Guide, AllocError>
-        ensures { IfOk result (λ made. made ≡ record { orders = orders; yard = yard }) }
-    {
+    pub(crate) fn new(alloc: Global, mill: &Mill, table: &LossTable) -> Result<Guide, AllocError> {
         Ok(Guide {
-            questions: Questions::new(alloc, orders, yard)?,
+            questions: Questions::new(alloc, mill)?,
             neighbours: Neighbours::new(alloc, mill, table)?,
             aim: 0,
             above: Vec::new(alloc),
@@ -74,26 +58,22 @@ impl Guide {
     }
 
     // Prices leave no less loss to the next node.
-    pub(crate) fn raise(&mut self, aim: i64)
-        ensures { self.new ≡ self.old }
-    {
+    pub(crate) fn raise(&mut self, aim: i64) {
         self.aim = aim;
     }
 
     // The question of a cover to split on.
     pub(crate) fn choose(
         &mut self,
+        place: &Workplace<'_>,
         pool: &Pool,
         cover: &Cover,
-        decisions: &Decisions,
         first: Ask,
     ) -> Result<Ask, AllocError>
-        requires cover { AreThere pool.now.columns cover.now }
-        requires extent { self.old ≡ extent_of decisions.now }
-        ensures ask { IfOk result (λ ask. (ask ≡ first) ⊎ IsOpenAskOf decisions.now ask) }
-        ensures extent { self.new ≡ self.old }
+        requires { AreThere pool.now.columns cover.now }
+        ensures { IfOk result (λ ask. (ask ≡ first) ⊎ IsOpenAskOf place.now.decisions ask) }
     {
-        self.questions.choose(pool, cover, decisions, first)
+        self.questions.choose(place, pool, cover, first)
     }
 
     // A plan within the limits that is near the best one, sought before the first turn, or none.
@@ -105,7 +85,6 @@ impl Guide {
         limits: Limits,
     ) -> Result<Option<Plan>, AllocError>
         ensures found { IfOk result (λ found. IfSome found (IsFoundPlan mill.now limits)) }
-        ensures extent { self.new ≡ self.old }
     {
         self.neighbours.begin(alloc, mill, best, limits)
     }
@@ -122,7 +101,6 @@ impl Guide {
     ) -> Result<Option<Plan>, AllocError>
         requires { AreThere pool.now.columns cover.now }
         ensures found { IfOk result (λ found. IfSome found (IsFoundPlan mill.now limits)) }
-        ensures extent { self.new ≡ self.old }
     {
         let least = self.above.first().copied().unwrap_or(self.aim);
         let enough = u32::try_from(least).unwrap_or(0);
@@ -131,9 +109,7 @@ impl Guide {
     }
 
     // The next node, whose decisions are the path, is split.
-    pub(crate) fn go_down(&mut self, path: &[(Ask, bool)]) -> Result<(), AllocError>
-        ensures { self.new ≡ self.old }
-    {
+    pub(crate) fn go_down(&mut self, path: &[(Ask, bool)]) -> Result<(), AllocError> {
         self.note(path, false);
         self.above.truncate(path.len());
         self.above.push(self.aim)?;
@@ -141,25 +117,19 @@ impl Guide {
     }
 
     // The next node, whose decisions are the path, is closed.
-    pub(crate) fn close(&mut self, path: &[(Ask, bool)])
-        ensures { self.new ≡ self.old }
-    {
+    pub(crate) fn close(&mut self, path: &[(Ask, bool)]) {
         self.note(path, true);
     }
 
     // A branch for no comes next, whose decisions are the path.
-    pub(crate) fn turn_back(&mut self, path: &[(Ask, bool)])
-        ensures { self.new ≡ self.old }
-    {
+    pub(crate) fn turn_back(&mut self, path: &[(Ask, bool)]) {
         self.above.truncate(path.len());
         self.aim = self.above.last().copied().unwrap_or(0);
     }
 
     // How many dives are due where so many nodes are decided: some at the first split, and one each time that the nodes have grown
     // by a quarter.
-    pub(crate) fn dives_due(&mut self, nodes: usize) -> u32
-        ensures { self.new ≡ self.old }
-    {
+    pub(crate) fn dives_due(&mut self, nodes: usize) -> u32 {
         if nodes < self.next_dive {
             return 0;
         }
@@ -174,7 +144,6 @@ impl Guide {
         ensures smaller { AreSmaller result limits }
         ensures small { IsSmall (number_of result.loss) }
         ensures count { result.count ≡ limits.count }
-        ensures extent { self.new ≡ self.old }
     {
         self.dives = self.dives.saturating_add(1);
         let most = limits.loss.unwrap_or(self.aim.saturating_add(10_000));
@@ -188,16 +157,12 @@ impl Guide {
     }
 
     // Whether a cover of so many columns may be kept with its split, beside those that were.
-    pub(crate) fn keeps(&mut self, columns: usize) -> bool
-        ensures { self.new ≡ self.old }
-    {
+    pub(crate) fn keeps(&mut self, columns: usize) -> bool {
         self.shares = self.shares.saturating_add(columns);
         self.shares <= MOST_SHARES
     }
 
-    fn note(&mut self, path: &[(Ask, bool)], closed: bool)
-        ensures { self.new ≡ self.old }
-    {
+    fn note(&mut self, path: &[(Ask, bool)], closed: bool) {
         if let Some(decision) = path.last() {
             self.questions.note(*decision, closed);
         }

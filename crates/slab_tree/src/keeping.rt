@@ -1,9 +1,10 @@
 //! Whether a cover that was shown for greater limits is one for smaller ones.
 
-ghost use Rattle.std.specs.Prelude.{ℕ, ◌≡◌, ◌≤◌, ◌*◌, ◌^◌, IfSome, IsTrue, length, pos, unsigned_abs};
+ghost use Rattle.std.specs.Prelude.{ℕ, ◌≡◌, ◌≤◌, ◌*◌, ◌^◌, IfSome, IsTrue, length, map, pos, unsigned_abs};
 ghost use Rattle.mill_model.specs.Columns.{load, loss_of, size_of as size_of_kind};
 ghost use Rattle.mill_model.specs.Shares.{part_of};
-ghost use Rattle.slab_tree.specs.Keeping.{IsLossWithin, shown_loss};
+ghost use Rattle.slab_relax.specs.PoolCovers.{loss_by};
+ghost use Rattle.slab_tree.specs.Keeping.{IsLossWithin};
 
 use mill_model::{Kind, Mill, Share, Shown};
 
@@ -17,15 +18,15 @@ pub(crate) fn is_loss_within(mill: &Mill, shown: &Shown, limit: Option<i64>) -> 
     let Some(limit) = limit else {
         return true;
     };
-    match loss_by(mill, shown.shares()) {
+    match loss_of_shares(mill, shown.shares()) {
         Some(total) => shown.d() >= 0 && total <= i128::from(shown.d()) * i128::from(limit),
         None => false,
     }
 }
 
 // The losses of the columns times their multipliers, where the numbers are in range.
-fn loss_by(mill: &Mill, shares: &[Share]) -> Option<i128>
-    ensures { IfSome result (λ total. total ≡ pos (shown_loss mill.now shares.now)) }
+fn loss_of_shares(mill: &Mill, shares: &[Share]) -> Option<i128>
+    ensures { IfSome result (λ total. total ≡ pos (loss_by mill.now (map part_of shares.now))) }
 {
     if shares.len() > MOST_COLUMNS {
         return None;

@@ -1,10 +1,10 @@
-//! Plans near others: the best plan, or one made of a cover's large columns, is renewed part by part.
+//! Plans near others: the best plan, or a cover that is rounded to one, is renewed part by part.
 
 ghost use Rattle.std.specs.Prelude.{IfOk, IfSome};
 ghost use Rattle.slab_repack.specs.FoundPlans.{IsFoundPlan};
 ghost use Rattle.slab_tree.specs.Asking.{AreThere};
 
-use crate::rounding::ranked;
+use crate::shares::ranked;
 use loss_table::LossTable;
 use mill_model::{Limits, Mill, Plan};
 use slab_columns::Pool;
@@ -61,8 +61,8 @@ impl Neighbours {
         self.repack.search(alloc, mill, limits, 0, EARLY_STEPS)
     }
 
-    // A plan within the limits, from a cover of a tree with so many nodes, or none: also where no search is due. So little loss is
-    // enough.
+    // A plan within the limits, from a cover of a tree with so many nodes, or none: the cover rounded to a plan, or one near that,
+    // where a search is due. So little loss is enough.
     pub(crate) fn seek(
         &mut self,
         alloc: Global,
@@ -76,10 +76,19 @@ impl Neighbours {
         requires { AreThere pool.now.columns cover.now }
         ensures { IfOk result (λ found. IfSome found (IsFoundPlan mill.now limits)) }
     {
+        self.take(alloc, pool, cover)?;
+        if let Some(plan) = self.repack.completed(alloc, mill, limits)? {
+            return Ok(Some(plan));
+        }
         let work = self.work_due(nodes);
         if work < LEAST_STEPS {
             return Ok(None);
         }
+        self.repack.search(alloc, mill, limits, enough, work)
+    }
+
+    // Starts from the largest columns of a cover, as far as they are disjoint.
+    fn take(&mut self, alloc: Global, pool: &Pool, cover: &Cover) -> Result<(), AllocError> {
         self.repack.clear();
         for (_, id) in ranked(alloc, cover)? {
             if usize::from(id.0) < pool.len() {
@@ -87,7 +96,7 @@ impl Neighbours {
                 let _ = self.repack.take(column.kind, column.orders);
             }
         }
-        self.repack.search(alloc, mill, limits, enough, work)
+        Ok(())
     }
 
     // How many steps a search may take now.

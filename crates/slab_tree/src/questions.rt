@@ -2,16 +2,15 @@
 
 ghost use Rattle.std.specs.Prelude.{◌≡◌, ◌<◌, ◌⊎◌, ◌↔◌, IfOk, IfSome, IsTrue};
 ghost use Rattle.mill_model.specs.Decisions.{IsAskAmong};
-ghost use Rattle.slab_tree.specs.Asking.{AreThere, IsOpenAskOf, extent_of};
+ghost use Rattle.slab_tree.specs.Asking.{AreThere, IsOpenAskOf};
 
 use crate::records::{ONE, Records};
 use crate::shares::Shares;
-use mill_model::Ask;
+use crate::workplace::Workplace;
+use mill_model::{Ask, Mill};
 use slab_columns::Pool;
-use slab_decide::Decisions;
 use slab_node::Cover;
 use std::alloc::{AllocError, Global};
-use std::marker::Model;
 
 // A share that lies so near to 0 or 1 counts as whole: the parts of a share are rounded down.
 const NEAR: u32 = 512;
@@ -19,31 +18,19 @@ const NEAR: u32 = 512;
 // Chooses questions by what became of their branches so far.
 #[derive(Drop)]
 pub(crate) struct Questions {
-    orders: u16,
-    yard: u16,
     shares: Shares,
     // What is known of each question, at its place among the shares, and of all.
     records: Vec<Records>,
     all: Records,
 }
 
-impl Model for Questions {
-    ghost use Rattle.slab_tree.specs.Asking.{Extent};
-
-    ghost Value = { Extent };
-
-    ghost view = { λ q. record { orders = q.orders; yard = q.yard } };
-}
-
 impl Questions {
-    pub(crate) fn new(alloc: Global, orders: u16, yard: u16) -> Result<Questions, AllocError>
-        ensures { IfOk result (λ made. made ≡ record { orders = orders; yard = yard }) }
-    {
+    pub(crate) fn new(alloc: Global, mill: &Mill) -> Result<Questions, AllocError> {
+        let orders = mill.orders().len() as u16;
+        let yard = mill.yard().len() as u16;
         let shares = Shares::new(alloc, orders, yard)?;
         let records = vec![in alloc; Records::new(); shares.places()]?;
         Ok(Questions {
-            orders,
-            yard,
             shares,
             records,
             all: Records::new(),
@@ -51,9 +38,7 @@ impl Questions {
     }
 
     // The branch of a decision was decided; whether it was closed at once.
-    pub(crate) fn note(&mut self, decision: (Ask, bool), closed: bool)
-        ensures { self.new ≡ self.old }
-    {
+    pub(crate) fn note(&mut self, decision: (Ask, bool), closed: bool) {
         let (ask, yes) = decision;
         let place = self.shares.place_of(ask);
         if let Some(records) = self.records.get_mut(place) {
@@ -65,31 +50,28 @@ impl Questions {
     // The question of a cover to split on: the one of the best score, or else the one that is handed in.
     pub(crate) fn choose(
         &mut self,
+        place: &Workplace<'_>,
         pool: &Pool,
         cover: &Cover,
-        decisions: &Decisions,
         first: Ask,
     ) -> Result<Ask, AllocError>
-        requires cover { AreThere pool.now.columns cover.now }
-        requires extent { self.old ≡ extent_of decisions.now }
-        ensures ask { IfOk result (λ ask. (ask ≡ first) ⊎ IsOpenAskOf decisions.now ask) }
-        ensures extent { self.new ≡ self.old }
+        requires { AreThere pool.now.columns cover.now }
+        ensures { IfOk result (λ ask. (ask ≡ first) ⊎ IsOpenAskOf place.now.decisions ask) }
     {
         self.shares.take(pool, cover)?;
-        Ok(self.best(decisions, first))
+        Ok(self.best(place, first))
     }
 
     // The open question of the best score among those with a share.
-    fn best(&self, decisions: &Decisions, first: Ask) -> Ask
-        requires { self.now ≡ extent_of decisions.now }
-        ensures { (result ≡ first) ⊎ IsOpenAskOf decisions.now result }
+    fn best(&self, place: &Workplace<'_>, first: Ask) -> Ask
+        ensures { (result ≡ first) ⊎ IsOpenAskOf place.now.decisions result }
     {
         let mut best = first;
         let mut most = 0;
-        for place in self.shares.touched() {
-            let score = self.score_at(*place);
+        for index in self.shares.touched() {
+            let score = self.score_at(*index);
             if score > most {
-                if let Some(ask) = self.open_ask(*place, decisions) {
+                if let Some(ask) = self.open_ask(*index, place) {
                     best = ask;
                     most = score;
                 }
@@ -111,12 +93,13 @@ impl Questions {
     }
 
     // The question at a place, where it is open.
-    fn open_ask(&self, place: usize, decisions: &Decisions) -> Option<Ask>
-        requires { self.now ≡ extent_of decisions.now }
-        ensures { IfSome result (IsOpenAskOf decisions.now) }
+    fn open_ask(&self, index: usize, place: &Workplace<'_>) -> Option<Ask>
+        ensures { IfSome result (IsOpenAskOf place.now.decisions) }
     {
-        let ask = self.shares.ask_at(place);
-        if is_among(self.orders, self.yard, ask) && decisions.follows(ask).is_none() {
+        let ask = self.shares.ask_at(index);
+        let orders = place.mill.orders().len() as u16;
+        let yard = place.mill.yard().len() as u16;
+        if is_among(orders, yard, ask) && place.decisions.follows(ask).is_none() {
             return Some(ask);
         }
         None

@@ -36,7 +36,7 @@ impl Record {
         rate.min(u64::from(ONE))
     }
 
-    // The same, with two more branches at a rate.
+    // The part that was closed, with two more branches at a rate.
     fn rate_near(&self, rate: u64) -> u64
         requires { rate ≤ 65536 }
         ensures { result ≤ 65536 }

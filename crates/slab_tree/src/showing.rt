@@ -50,7 +50,7 @@ pub(crate) fn mark_of(
     )
 }
 
-// The same, or the plain mark where the cover can't be shown or isn't to be kept.
+// The cover as a mark, or the plain mark where it can't be shown or isn't to be kept.
 pub(crate) fn shown_or_plain(
     alloc: Global,
     pool: &Pool,

@@ -6,6 +6,7 @@ ghost use Rattle.mill_model.specs.Paths.{next_branch as branch_after};
 ghost use Rattle.mill_model.specs.Plans.{IsLegal, sums_of};
 ghost use Rattle.mill_model.specs.Starts.{IsStart};
 ghost use Rattle.slab_master.specs.Given.{IsSmall};
+ghost use Rattle.slab_tree.specs.Asking.{extent_of};
 ghost use Rattle.slab_tree.specs.Counts.{IsCountedSplit};
 ghost use Rattle.slab_tree.specs.Marking.{is_bare};
 ghost use Rattle.slab_tree.specs.Standing.{IsOpenPath};
@@ -73,7 +74,8 @@ impl Model for Tree {
 }
 
 impl Tree {
-    /// A question about plans within the count limit, whose best plan known so far is handed in. The tree has no node yet.
+    /// A question about plans within the count limit, whose best plan known so far is handed in. The tree has no node yet. Its only
+    /// error is want of memory.
     pub fn question(
         alloc: Global,
         mill: &Mill,
@@ -104,13 +106,6 @@ impl Tree {
             opened: 0,
             phase: Phase::New,
         })
-    }
-
-    /// How many nodes are decided or wait.
-    pub fn opened(&self) -> u64
-        ensures { result ≡ self.now.opened }
-    {
-        self.opened
     }
 
     // The present limits.
@@ -166,6 +161,7 @@ impl Tree {
         ensures on { IfOk result (λ on. IsTrue on ↔ IsSome (branch_after self.old.path)) }
         ensures err { OnErr result (self.new ≡ self.old) }
         ensures told { IfOk result (λ on. on ≡ true → decisions.new ≡ record decisions.old { list = self.new.path }) }
+        ensures extent { extent_of decisions.new ≡ extent_of decisions.old }
     {
         let on = self.close(prices)?;
         if on {

@@ -16,7 +16,7 @@ use mill_model::{Ask, Mark, OpenTree, Step, Steps};
 use std::alloc::{AllocError, Global};
 
 impl Tree {
-    /// The finished tree: its steps and marks in preorder.
+    /// The finished tree: its steps and marks in preorder. Its only error is want of memory.
     pub fn steps(self, alloc: Global) -> Result<Steps, AllocError>
         ensures steps { IfOk result (λ s. s.steps ≡ map step_of_node self.nodes) }
         ensures marks { IfOk result (λ s. s.marks ≡ marks_in self.nodes) }
@@ -45,7 +45,8 @@ impl Tree {
         Ok((steps, marks))
     }
 
-    /// The unfinished tree: its questions, and an end for each node that isn't split.
+    /// The unfinished tree, as a run leaves it that ends with Budget: its questions, and an end for each node that isn't split. Its
+    /// only error is want of memory.
     pub fn open_tree(self, alloc: Global) -> Result<OpenTree, AllocError>
         requires { length self.nodes ≤ self.opened }
         ensures outline { IfOk result (λ list. list ≡ outline_of self) }

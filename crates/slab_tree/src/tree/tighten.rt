@@ -5,10 +5,10 @@ ghost use Rattle.mill_model.specs.Decisions.{IsAskAmong};
 ghost use Rattle.slab_relax.specs.Tallies.{AreNoLess, HaveCauses};
 ghost use Rattle.slab_node.specs.Turns.{IsUndecided};
 ghost use Rattle.slab_tree.specs.Marking.{is_bare};
-ghost use Rattle.slab_tree.specs.Rewriting.{StillShows, IsRewriting, MovesOn, HasRoom, IsTallied, AreKept, IsNoted};
-ghost use Rattle.slab_tree.specs.Searches.{HasLimitsBelow, IsFinished, bare_count};
+ghost use Rattle.slab_tree.specs.Rewriting.{StillShows, HasNoPlanAt, IsRenewed, IsRewriting, MovesOn, IsTallied, AreKept, IsNoted};
+ghost use Rattle.slab_tree.specs.Searches.{HasLimitsBelow, IsFinished, limits_of, bare_count};
 ghost use Rattle.slab_tree.specs.Stepping.{IsBranched, IsWorkplace};
-ghost use Rattle.slab_tree.specs.Tightening.{IsTightened, MayCountBare, AreBareCounted};
+ghost use Rattle.slab_tree.specs.Tightening.{IsTightened, HasRoom, MayCountBare, AreBareCounted};
 
 use super::{Phase, Tree};
 use crate::keeping::is_loss_within;
@@ -17,11 +17,20 @@ use crate::rest::Rest;
 use crate::showing::{is_bare, mark_of};
 use crate::{Node, Nodes};
 use loss_table::LossTable;
-use mill_model::{Ask, Mark, Mill};
+use mill_model::{Ask, Mark, Mill, Prices};
 use slab_columns::Pool;
 use slab_decide::Decisions;
 use slab_node::{Tally, Turned, turn};
 use std::alloc::{AllocError, Global};
+
+// An inner node of the old tree, decided anew.
+#[derive(Drop)]
+enum Renewed {
+    // Prices refute it: a leaf stands for all that was below.
+    Leaf(Prices),
+    // It stays a split, with this mark.
+    Split(Mark),
+}
 
 impl Tree {
     /// Decides each split of a finished tree anew, for the final limits. Where prices now refute them, one leaf stands for all that
@@ -140,9 +149,18 @@ impl Tree {
             Node::Branched(ask, mark) if self.still_shows(mill, &mark) => {
                 self.keep(ask, mark, false, decisions, nodes)
             }
-            Node::Branched(ask, mark) => self.decide_anew(
-                alloc, mill, table, ask, mark, rest, decisions, pool, nodes, tally,
-            ),
+            Node::Branched(ask, mark) => {
+                match self.decide_anew(alloc, mill, table, decisions, pool, tally)? {
+                    Renewed::Leaf(prices) => {
+                        rest.pass_two();
+                        self.turn_back(prices, decisions)?;
+                        Ok(())
+                    }
+                    Renewed::Split(shown) => {
+                        self.keep(ask, shown, is_bare(&mark), decisions, nodes)
+                    }
+                }
+            }
         }
     }
 
@@ -156,47 +174,31 @@ impl Tree {
         }
     }
 
-    // Decides an inner node of the old tree anew, with one turn at the final limits.
+    // Decides an inner node of the old tree anew, with one turn at the final limits, which no plan is within.
     fn decide_anew(
-        &mut self,
+        &self,
         alloc: Global,
         mill: &Mill,
         table: &LossTable,
-        ask: Ask,
-        mark: Mark,
-        rest: &mut Rest,
-        decisions: &mut Decisions,
+        decisions: &Decisions,
         pool: &mut Pool,
-        nodes: &mut Nodes,
         tally: &mut Tally,
-    ) -> Result<(), AllocError>
-        requires limits { HasLimitsBelow self.old }
-        requires walk { IsRewriting mill.now self.old (Node.Branched ask mark ∷ rest.old) }
-        requires place { IsWorkplace mill.now table.now pool.old decisions.old self.old.path }
-        ensures moves { OnOk result (MovesOn mill.now self.old self.new (Node.Branched ask mark) rest.old rest.new) }
-        ensures place { OnOk result (self.new.phase ≡ Phase.Running → IsWorkplace mill.now table.now pool.new decisions.new self.new.path) }
-        ensures tallied { OnOk result (HasRoom nodes.old (Node.Branched ask mark ∷ rest.old) → IsTallied nodes.old nodes.new self.old.nodes self.new.nodes (Node.Branched ask mark ∷ rest.old) rest.new) }
-        ensures room { OnOk result (HasRoom nodes.old (Node.Branched ask mark ∷ rest.old) → HasRoom nodes.new rest.new) }
-        ensures causes { OnOk result (HaveCauses (bare_count self.old.nodes) tally.old (bare_count self.new.nodes) tally.new) }
-        ensures kept { AreKept nodes.old nodes.new }
-        ensures bare { HaveCauses nodes.old.bare tally.old nodes.new.bare tally.new }
+    ) -> Result<Renewed, AllocError>
+        requires limits { HasLimitsBelow self.now }
+        requires place { IsWorkplace mill.now table.now pool.old decisions.now self.now.path }
+        requires none { HasNoPlanAt mill.now (limits_of self.now) self.now.path }
+        ensures renewed { IfOk result (IsRenewed mill.now (limits_of self.now) self.now.path tally.old tally.new) }
         ensures counters { AreNoLess tally.old tally.new }
         ensures mill { pool.new.mill ≡ mill.now }
     {
-        let _counted = nodes.opened();
         let limits = self.limits();
-        let counted = is_bare(&mark);
         match turn(alloc, mill, table, decisions, limits, pool, tally)? {
-            Turned::Refuted(prices) => {
-                rest.pass_two();
-                self.turn_back(prices, decisions)?;
-                Ok(())
-            }
+            Turned::Refuted(prices) => Ok(Renewed::Leaf(prices)),
             Turned::Spread(cover, _) => {
                 let shown = mark_of(alloc, pool, &cover, tally)?;
-                self.keep(ask, shown, counted, decisions, nodes)
+                Ok(Renewed::Split(shown))
             }
-            Turned::Bare(_) => self.keep(ask, Mark::Bare, counted, decisions, nodes),
+            Turned::Bare(_) => Ok(Renewed::Split(Mark::Bare)),
             Turned::InBox(_) => unreachable!(),
         }
     }

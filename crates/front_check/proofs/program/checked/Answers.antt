@@ -1,11 +1,12 @@
 use Rattle.std.proofs.Common.{List, ℕ, string_bytes}
 use Rattle.cert_check.specs.Verdicts.{said_of}
+use Rattle.run_words.specs.Files.{HasMill}
+use Rattle.run_words.proofs.Telling.{told_before, told_both}
 use Rattle.front_check.specs.Words.{CheckWords}
 use Rattle.front_check.specs.Jobs.{named_check}
 use Rattle.front_check.specs.Owed.{OwesOfCheck}
-use Rattle.front_check.specs.Endings.{HasMill, HasVerdict}
+use Rattle.front_check.specs.Endings.{HasVerdict}
 use Rattle.front_check.proofs.Owing.{owes_check}
-use Rattle.front_check.proofs.Telling.{told_before, told_both}
 use Rattle.front_check.proofs.Ends.{rest_read}
 use Rattle.front_check.proofs.program.checked.Goals as goal
 

@@ -1,9 +1,10 @@
 use Rattle.std.proofs.Common.{ℕ, List, string_bytes, refl}
 use Rattle.slab_desk.specs.Desk.{Told, Files, ChangesLeft}
 use Rattle.slab_desk.proofs.Steps.{steps_start}
-use Rattle.front_check.specs.Texts.{usage_text}
+use Rattle.run_words.specs.Texts.{usage_text}
+use Rattle.run_words.proofs.Telling.{always_told}
 use Rattle.front_check.specs.Owed.{Exactly}
-use Rattle.front_check.proofs.Ends.{ends_owed, ends_memory, always_told}
+use Rattle.front_check.proofs.Ends.{ends_owed, ends_memory}
 use Rattle.front_check.proofs.program.refuse.Goals as goal
 
 pub returns-in-Ok-clause-ran : goal.returns-in-Ok-clause-ran

@@ -1,7 +1,8 @@
 use Rattle.std.proofs.Common.{◌≡◌, ◌∷◌, [], ◌++◌, length, take, decimal, codes}
 use Rattle.std.specs.List.{flat_map}
 use Rattle.std.specs.String.{string_bytes}
-use Rattle.front_check.specs.Texts.{line, point_text}
+use Rattle.run_words.specs.Texts.{line}
+use Rattle.front_check.specs.Texts.{point_text}
 use Rattle.front_check.proofs.texts.front_text.Given as goal
 
 abbrev pub invariant-points : goal.invariant-points

@@ -1,5 +1,5 @@
 use Rattle.std.proofs.Common.{inl, inr, sym}
-use Rattle.front_check.proofs.Numbers.{named_within, named_beyond}
+use Rattle.run_words.proofs.Numbers.{named_within, named_beyond}
 use Rattle.front_check.proofs.words.number_in.Goals as goal
 
 pub returns-in-Some-clause-named : goal.returns-in-Some-clause-named

@@ -1,6 +1,7 @@
 use Rattle.std.proofs.Common.{◌∙◌, map, take, drop, length, ◌-◌, string_bytes}
+use Rattle.run_words.proofs.Lists.{two_first}
 use Rattle.front_check.specs.Jobs.{options_of}
-use Rattle.front_check.proofs.OptionSteps.{two_first, next_option}
+use Rattle.front_check.proofs.OptionSteps.{next_option}
 use Rattle.front_check.proofs.words.read_options.Goals as goal
 
 pub options-preserved : goal.options-preserved

@@ -1,14 +1,13 @@
 use Rattle.std.proofs.Common.{ℕ, List, length}
 use Rattle.std.specs.String.{string_bytes}
+use Rattle.run_words.specs.Words.{MillWords, named_mill}
+use Rattle.run_words.specs.Files.{HasValue, HasMill}
+use Rattle.run_words.proofs.Telling.{told_before, told_both}
 use Rattle.slab_front.specs.declared.texts.Source.TheVariants.{Plan as PlanSource}
 use Rattle.mill_read.specs.PlanFile.{plan_file}
-use Rattle.slab_front.specs.Words.{MillWords}
-use Rattle.slab_front.specs.Jobs.{named_mill}
 use Rattle.slab_front.specs.Outcomes.{saying}
 use Rattle.slab_front.specs.Owed.{OwesVerdict, OwesOfPlan, OwesOfMill}
-use Rattle.slab_front.specs.Endings.{HasValue, HasMill}
 use Rattle.slab_front.proofs.Owing.{owes_mill, owes_value}
-use Rattle.slab_front.proofs.Telling.{told_before, told_both}
 use Rattle.slab_front.proofs.judge.judge.Goals as goal
 
 pub returns-clause-ending : goal.returns-clause-ending

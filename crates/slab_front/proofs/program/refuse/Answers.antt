@@ -1,10 +1,11 @@
 use Rattle.std.proofs.Common.{ℕ, List, string_bytes, refl, ap}
 use Rattle.slab_desk.specs.Desk.{Told, Files, ChangesLeft}
 use Rattle.slab_desk.proofs.Steps.{steps_start}
-use Rattle.slab_front.specs.Texts.{usage_text}
+use Rattle.run_words.specs.Texts.{usage_text}
+use Rattle.run_words.proofs.Telling.{always_told}
 use Rattle.slab_front.specs.Outcomes.{saying}
 use Rattle.slab_front.specs.Owed.{Exactly}
-use Rattle.slab_front.proofs.Ends.{ends_owed, ends_memory, always_told}
+use Rattle.slab_front.proofs.Ends.{ends_owed, ends_memory}
 use Rattle.slab_front.proofs.program.refuse.Goals as goal
 
 pub returns-in-Ok-clause-ran : goal.returns-in-Ok-clause-ran

@@ -1,13 +1,12 @@
 use Rattle.std.proofs.Common.{refl, subst, [], List, ℕ}
 use Rattle.mill_model.specs.Fronts.{Point}
 use Rattle.slab_relax.specs.declared.tally.Tally.{Tally}
-use Rattle.slab_front.specs.Words.{MillWords}
-use Rattle.slab_front.specs.Jobs.{named_mill}
+use Rattle.run_words.specs.Words.{MillWords, named_mill}
+use Rattle.run_words.specs.Files.{HasMill}
+use Rattle.run_words.proofs.Telling.{told_each}
 use Rattle.slab_front.specs.Searched.{Searched, IsSearched, status_of}
 use Rattle.slab_front.specs.Owed.{OwesOfMill, OwesSearch, stored_as}
-use Rattle.slab_front.specs.Endings.{HasMill}
 use Rattle.slab_front.proofs.Owing.{owes_mill}
-use Rattle.slab_front.proofs.Telling.{told_each}
 use Rattle.slab_front.proofs.solve.solve.Goals as goal
 
 pub returns-clause-answer : goal.returns-clause-answer

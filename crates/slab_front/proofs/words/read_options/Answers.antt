@@ -1,6 +1,7 @@
 use Rattle.std.proofs.Common.{◌∙◌, map, take, drop, length, ◌-◌, string_bytes}
+use Rattle.run_words.proofs.Lists.{two_first}
 use Rattle.slab_front.specs.Jobs.{searches_for, options_at, options_of}
-use Rattle.slab_front.proofs.OptionSteps.{two_first, next_option}
+use Rattle.slab_front.proofs.OptionSteps.{next_option}
 use Rattle.slab_front.proofs.words.read_options.Goals as goal
 
 pub options-preserved : goal.options-preserved

@@ -63,7 +63,7 @@ pub returns-in_ok-open_tree-in-Budget-clause-within : goal.returns-in_ok-open_tr
 returns-in_ok-open_tree-in-Budget-clause-within c =
     let first = c.in_ok-tree.tree in
     let last = c.run.new.self in
-    let ends : EndsBudget c.args.mill.now c.args.nodes.now.limit c.run.new.self = subst (λ (e : Ended). IsEnded c.args.mill.now c.args.nodes.now.limit c.in_ok-tree.tree c.run.new.self e) c.in-Budget.is c.in_ok-plan.ensures.ended in
+    let ends : EndsBudget c.args.mill.now c.args.nodes.now.limit c.in_ok-tree.tree c.run.new.self = subst (λ (e : Ended). IsEnded c.args.mill.now c.args.nodes.now.limit c.in_ok-tree.tree c.run.new.self e) c.in-Budget.is c.in_ok-plan.ensures.ended in
     let rest = c.in_ok-open_tree-in-Budget.field-0 in
     omega (arith, c.run.ensures.room, refused_few c.args.nodes.now c.run.new.nodes first last c.in_ok-tree.ensures.tree.no_nodes c.in_ok-tree.ensures.tree.none_opened c.run.ensures.counts rest c.args.mill.now c.args.nodes.now.limit ends.tree c.in_ok-open_tree-in-Budget.ensures.outline)
 
@@ -72,7 +72,7 @@ returns-in_ok-open_tree-in-Budget-clause-answer c =
     let m = c.args.mill.now in
     let first = c.in_ok-tree.tree in
     let last = c.run.new.self in
-    let ends : EndsBudget c.args.mill.now c.args.nodes.now.limit c.run.new.self = subst (λ (e : Ended). IsEnded c.args.mill.now c.args.nodes.now.limit c.in_ok-tree.tree c.run.new.self e) c.in-Budget.is c.in_ok-plan.ensures.ended in
+    let ends : EndsBudget c.args.mill.now c.args.nodes.now.limit c.in_ok-tree.tree c.run.new.self = subst (λ (e : Ended). IsEnded c.args.mill.now c.args.nodes.now.limit c.in_ok-tree.tree c.run.new.self e) c.in-Budget.is c.in_ok-plan.ensures.ended in
     let opens : tree_opening c.run.new.self ≡ opening_of c.args.mill.now c.args.count c.args.best = opens_with m c.args.count c.args.best first last c.in_ok-tree.ensures.tree c.in_ok-tree.ensures.count c.in_ok-tree.ensures.best c.in_ok-tree.ensures.loss c.run.ensures.question in
     let rest = c.in_ok-open_tree-in-Budget.field-0 in (
       bare_count last.nodes,

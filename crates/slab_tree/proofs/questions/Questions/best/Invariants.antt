@@ -2,5 +2,5 @@ use Rattle.std.specs.Prelude.{◌≡◌, ◌⊎◌}
 use Rattle.slab_tree.specs.Asking.{IsOpenAskOf}
 use Rattle.slab_tree.proofs.questions.Questions.best.Given as goal
 
-abbrev pub invariant-loop-place : goal.invariant-loop-place
-invariant-loop-place l = (l.best ≡ l.fn.first) ⊎ IsOpenAskOf l.decisions l.best
+abbrev pub invariant-loop-index : goal.invariant-loop-index
+invariant-loop-index l = (l.best ≡ l.fn.first) ⊎ IsOpenAskOf l.place.decisions l.best

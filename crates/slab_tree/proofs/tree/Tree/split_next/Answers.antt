@@ -1,6 +1,7 @@
-use Rattle.std.proofs.Common.{◌≡◌, ℕ, ◌+◌, Bool, true, false, List, refl, sym, ap, subst, ◌∙◌, arith, cond}
-use Rattle.std.specs.Prelude.{IfOk, IfSome, OnErr, Option, Result, Ok, Err}
-use Rattle.mill_model.specs.Plans.{Plan}
+use Rattle.std.proofs.Common.{◌≡◌, ℕ, ◌+◌, ◌^◌, ◌<◌, Bool, true, false, List, refl, sym, ap, subst, ◌∙◌, arith, cond}
+use Rattle.std.specs.Prelude.{IfOk, IfSome, OnErr, Option, Some, Result, Ok, Err}
+use Rattle.mill_model.specs.Mill.{Mill}
+use Rattle.mill_model.specs.Plans.{Plan, sums_of}
 use Rattle.slab_repack.specs.FoundPlans.{IsFoundPlan}
 use Rattle.std.specs.declared.alloc.AllocError.{AllocError}
 use Rattle.std.proofs.lemmas.Result.{IfOk-weaker}
@@ -10,7 +11,7 @@ use Rattle.slab_node.specs.Turns.{IsOpenAsk}
 use Rattle.slab_tree.specs.declared.tree.Phase.{Phase}
 use Rattle.slab_tree.specs.declared.tree.Phase.TheVariants.{Running, Refused}
 use Rattle.slab_tree.specs.Marking.{HoldsCover, is_bare}
-use Rattle.slab_tree.specs.Searches.{Search, limits_of, bare_count, HasBareEnd}
+use Rattle.slab_tree.specs.Searches.{Search, limits_of, loss_below, bare_count, HasBareEnd}
 use Rattle.slab_tree.specs.Stepping.{IsSplitUnder, IsStepped}
 use Rattle.slab_tree.proofs.Gains.{branched_bares, same_counts, split_counts}
 use Rattle.slab_tree.proofs.Moves.{split_step, lower_step}
@@ -21,18 +22,20 @@ use Rattle.slab_tree.proofs.tree.Tree.split_next.Goals as goal
 
 pub returns-in-Some-clause-ok : goal.returns-in-Some-clause-ok
 returns-in-Some-clause-ok c =
-    let found : IsFoundPlan c.args.mill.now (limits_of c.args.self.now) c.in-Some.plan = subst (λ (p : Option Plan). IfSome p (IsFoundPlan c.args.mill.now (limits_of c.args.self.now))) c.in-Some.is c.in_ok-plan.ensures.found in
-    lower_step c.args.mill.now c.args.nodes.now.limit c.args.self.now c.lower.new.self c.requires.tree c.requires.room c.in-Some.plan found c.lower.ensures.small c.lower.ensures.tree
+    let found : IsFoundPlan c.args.place.now.mill.now (limits_of c.args.self.now) c.in-Some.plan = subst (λ (p : Option Plan). IfSome p (IsFoundPlan c.args.place.now.mill.now (limits_of c.args.self.now))) c.in-Some.is c.in_ok-plan.ensures.found in
+    let small : (sums_of c.args.place.now.mill.now c.in-Some.plan).loss < 2 ^ 32 = subst (λ (m : Mill). (sums_of m c.in-Some.plan).loss < 2 ^ 32) c.in_ok-plan.ensures.mill c.lower.ensures.small in
+    let lowered : c.lower.new.self ≡ record c.args.self.now { loss = loss_below c.args.place.now.mill.now c.in-Some.plan; best = Some c.in-Some.plan } = subst (λ (m : Mill). c.lower.new.self ≡ record c.args.self.now { loss = loss_below m c.in-Some.plan; best = Some c.in-Some.plan }) c.in_ok-plan.ensures.mill c.lower.ensures.tree in
+    lower_step c.args.place.now.mill.now c.args.nodes.now.limit c.args.self.now c.lower.new.self c.requires.tree c.requires.room c.in-Some.plan found small lowered
 
 -- ---- the split
 
 pub returns-in-None-clause-ok : goal.returns-in-None-clause-ok
 returns-in-None-clause-ok c =
-    let asks : IsOpenAsk c.args.mill.now c.args.self.now.path c.in_ok-ask.ask =
-    chosen_open c.args.mill.now c.args.decisions.now c.args.self.now.path c.args.first c.in_ok-ask.ask c.requires.place.orders c.requires.place.yard c.requires.place.list c.requires.first c.in_ok-ask.ensures.ask in
-    let holds : HoldsCover c.args.mill.now (limits_of c.args.self.now) c.in_ok-mark.mark c.args.self.now.path = c.in_ok-mark.ensures.holds c.args.mill.now (limits_of c.args.self.now) c.args.self.now.path c.requires.cover in
-    IfOk-weaker c.go_down.result (IsSplitUnder c.in_ok-ask.ask c.in_ok-mark.mark c.args.nodes.now.limit c.args.self.now c.go_down.new.self) (IsStepped c.args.mill.now c.args.nodes.now.limit c.args.self.now c.go_down.new.self)
-    (split_step c.args.mill.now c.args.nodes.now.limit c.args.self.now c.go_down.new.self c.requires.tree c.requires.room c.in_ok-ask.ask c.in_ok-mark.mark asks holds) c.go_down.ensures.ok
+    let asks : IsOpenAsk c.args.place.now.mill.now c.args.self.now.path c.in_ok-ask.ask =
+    chosen_open c.args.place.now.mill.now c.args.place.now.decisions c.args.self.now.path c.args.first c.in_ok-ask.ask c.args.place.now.extent.orders c.args.place.now.extent.yard c.requires.place.list c.requires.first c.in_ok-ask.ensures in
+    let holds : HoldsCover c.args.place.now.mill.now (limits_of c.args.self.now) c.in_ok-mark.mark c.args.self.now.path = c.in_ok-mark.ensures.holds c.args.place.now.mill.now (limits_of c.args.self.now) c.args.self.now.path c.requires.cover in
+    IfOk-weaker c.go_down.result (IsSplitUnder c.in_ok-ask.ask c.in_ok-mark.mark c.args.nodes.now.limit c.args.self.now c.go_down.new.self) (IsStepped c.args.place.now.mill.now c.args.nodes.now.limit c.args.self.now c.go_down.new.self)
+    (split_step c.args.place.now.mill.now c.args.nodes.now.limit c.args.self.now c.go_down.new.self c.requires.tree c.requires.room c.in_ok-ask.ask c.in_ok-mark.mark asks holds) c.go_down.ensures.ok
 
 -- a split that isn't bare adds no bare one
 no_more_bares : (old new : Search) (ask : Ask) (mark : Mark) (limit : ℕ) (r : Result Bool AllocError) → is_bare mark ≡ false → IfOk r (IsSplitUnder ask mark limit old new) → OnErr r (new ≡ old) → bare_count new.nodes ≡ bare_count old.nodes

@@ -28,8 +28,8 @@ use Rattle.slab_tree.proofs.tree.Tree.step.Goals as goal
 
 pub close_next-requires : goal.close_next-requires
 close_next-requires c =
-    rw (c.requires.place.orders, c.requires.place.yard)
-    (path_open c.args.mill.now (HoldsCover c.args.mill.now (opening_of c.args.self.now)) (limits_of c.args.self.now) c.args.self.now.path c.args.self.now.nodes c.requires.tree.stands)
+    rw (c.args.place.now.extent.orders, c.args.place.now.extent.yard)
+    (path_open c.args.place.now.mill.now (HoldsCover c.args.place.now.mill.now (opening_of c.args.self.now)) (limits_of c.args.self.now) c.args.self.now.path c.args.self.now.nodes c.requires.tree.stands)
 
 -- the turn's promise, at the tree's limits and path
 turn_at : (m : Mill) (l k : Limits) (p q : List Decision) (a b : Tally) (t u : Turned) → l ≡ k → p ≡ q → t ≡ u → IsTurn m l p a b t → IsTurn m k q a b u
@@ -43,15 +43,15 @@ ok_both (Err e) P Q S p q f = tt
 
 pub returns-in-Refuted-clause-ok : goal.returns-in-Refuted-clause-ok
 returns-in-Refuted-clause-ok c =
-    let t : Refutes c.args.mill.now (limits_of c.args.self.now) c.args.self.now.path c.in-Refuted.prices =
-    turn_at c.args.mill.now c.limits-limits.result (limits_of c.args.self.now) c.args.decisions.now.list c.args.self.now.path c.args.tally.now c.bounded_turn.new.tally c.in_ok-prices.field-0 (Refuted c.in-Refuted.prices) c.limits-limits.ensures c.requires.place.list c.in-Refuted.is c.in_ok-prices.ensures.turned in
-    ok_both c.close_next.result (IsClosed c.in-Refuted.prices c.args.self.now c.close_next.new.self) (λ on. IsTrue on ↔ IsSome (next_branch c.args.self.now.path)) (IsStepped c.args.mill.now c.args.nodes.now.limit c.args.self.now c.close_next.new.self) c.close_next.ensures.ok c.close_next.ensures.on
-    (λ on closed is. close_step c.args.mill.now c.args.nodes.now.limit c.args.self.now c.close_next.new.self c.requires.tree c.requires.room c.in-Refuted.prices t on is closed)
+    let t : Refutes c.args.place.now.mill.now (limits_of c.args.self.now) c.args.self.now.path c.in-Refuted.prices =
+    turn_at c.args.place.now.mill.now c.limits-limits.result (limits_of c.args.self.now) c.args.place.now.decisions.list c.args.self.now.path c.args.tally.now c.bounded_turn.new.tally c.in_ok-prices.field-0 (Refuted c.in-Refuted.prices) c.limits-limits.ensures c.requires.place.list c.in-Refuted.is c.in_ok-prices.ensures.turned in
+    ok_both c.close_next.result (IsClosed c.in-Refuted.prices c.args.self.now c.close_next.new.self) (λ on. IsTrue on ↔ IsSome (next_branch c.args.self.now.path)) (IsStepped c.args.place.now.mill.now c.args.nodes.now.limit c.args.self.now c.close_next.new.self) c.close_next.ensures.ok c.close_next.ensures.on
+    (λ on closed is. close_step c.args.place.now.mill.now c.args.nodes.now.limit c.args.self.now c.close_next.new.self c.requires.tree c.requires.room c.in-Refuted.prices t on is closed)
 
 pub returns-in-Refuted-clause-plain : goal.returns-in-Refuted-clause-plain
 returns-in-Refuted-clause-plain c = λ _ root.
     ok_both c.close_next.result (IsClosed c.in-Refuted.prices c.args.self.now c.close_next.new.self) (λ on. IsTrue on ↔ IsSome (next_branch c.args.self.now.path)) (IsClosedAtOnce c.args.self.now c.close_next.new.self) c.close_next.ensures.ok c.close_next.ensures.on
-    (λ on closed is. close_root c.args.mill.now c.args.nodes.now.limit c.args.self.now c.close_next.new.self c.requires.tree c.requires.room c.in-Refuted.prices on root is closed)
+    (λ on closed is. close_root c.args.place.now.mill.now c.args.nodes.now.limit c.args.self.now c.close_next.new.self c.requires.tree c.requires.room c.in-Refuted.prices on root is closed)
 
 pub returns-in-Refuted-clause-causes : goal.returns-in-Refuted-clause-causes
 returns-in-Refuted-clause-causes c = close_causes c.args.self.now c.close_next.new.self c.args.tally.now c.bounded_turn.new.tally c.in_ok-prices.ensures.counters c.close_next.result c.in-Refuted.prices c.close_next.ensures.ok c.close_next.ensures.err
@@ -63,21 +63,21 @@ returns-in-Refuted-clause-counts c = close_counts c.args.nodes.now c.opened-coun
 
 pub returns-in-InBox-clause-ok : goal.returns-in-InBox-clause-ok
 returns-in-InBox-clause-ok c =
-    let t : IsInBox c.args.mill.now (limits_of c.args.self.now) c.args.self.now.path c.in-InBox.plan =
-    turn_at c.args.mill.now c.limits-limits.result (limits_of c.args.self.now) c.args.decisions.now.list c.args.self.now.path c.args.tally.now c.bounded_turn.new.tally c.in_ok-prices.field-0 (InBox c.in-InBox.plan) c.limits-limits.ensures c.requires.place.list c.in-InBox.is c.in_ok-prices.ensures.turned in
-    lower_step c.args.mill.now c.args.nodes.now.limit c.args.self.now c.lower.new.self c.requires.tree c.requires.room c.in-InBox.plan (box_found c.args.mill.now (limits_of c.args.self.now) c.args.self.now.path c.in-InBox.plan t) c.lower.ensures.small c.lower.ensures.tree
+    let t : IsInBox c.args.place.now.mill.now (limits_of c.args.self.now) c.args.self.now.path c.in-InBox.plan =
+    turn_at c.args.place.now.mill.now c.limits-limits.result (limits_of c.args.self.now) c.args.place.now.decisions.list c.args.self.now.path c.args.tally.now c.bounded_turn.new.tally c.in_ok-prices.field-0 (InBox c.in-InBox.plan) c.limits-limits.ensures c.requires.place.list c.in-InBox.is c.in_ok-prices.ensures.turned in
+    lower_step c.args.place.now.mill.now c.args.nodes.now.limit c.args.self.now c.lower.new.self c.requires.tree c.requires.room c.in-InBox.plan (box_found c.args.place.now.mill.now (limits_of c.args.self.now) c.args.self.now.path c.in-InBox.plan t) c.lower.ensures.small c.lower.ensures.tree
 
 -- ---- a split
 
 pub split_next-requires-clause-first : goal.split_next-requires-clause-first
 split_next-requires-clause-first c =
-    (turn_at c.args.mill.now c.limits-limits.result (limits_of c.args.self.now) c.args.decisions.now.list c.args.self.now.path c.args.tally.now c.bounded_turn.new.tally c.in_ok-prices.field-0 (Spread c.in-Spread.cover c.in-Spread.first) c.limits-limits.ensures c.requires.place.list c.in-Spread.is c.in_ok-prices.ensures.turned).1
+    (turn_at c.args.place.now.mill.now c.limits-limits.result (limits_of c.args.self.now) c.args.place.now.decisions.list c.args.self.now.path c.args.tally.now c.bounded_turn.new.tally c.in_ok-prices.field-0 (Spread c.in-Spread.cover c.in-Spread.first) c.limits-limits.ensures c.requires.place.list c.in-Spread.is c.in_ok-prices.ensures.turned).1
 
 pub split_next-requires-clause-cover : goal.split_next-requires-clause-cover
 split_next-requires-clause-cover c =
-    subst (λ (l : Limits). IsPoolCover c.args.mill.now l c.args.self.now.path c.bounded_turn.new.pool.columns c.in-Spread.cover) c.limits-limits.ensures
-    (subst (λ (p : List Decision). IsPoolCover c.args.mill.now c.limits-limits.result p c.bounded_turn.new.pool.columns c.in-Spread.cover) c.requires.place.list
-    (subst (λ (t : Turned). IfSpread t (IsPoolCover c.args.mill.now c.limits-limits.result c.args.decisions.now.list c.bounded_turn.new.pool.columns)) c.in-Spread.is c.in_ok-prices.ensures.cover))
+    subst (λ (l : Limits). IsPoolCover c.args.place.now.mill.now l c.args.self.now.path c.bounded_turn.new.pool.columns c.in-Spread.cover) c.limits-limits.ensures
+    (subst (λ (p : List Decision). IsPoolCover c.args.place.now.mill.now c.limits-limits.result p c.bounded_turn.new.pool.columns c.in-Spread.cover) c.requires.place.list
+    (subst (λ (t : Turned). IfSpread t (IsPoolCover c.args.place.now.mill.now c.limits-limits.result c.args.place.now.decisions.list c.bounded_turn.new.pool.columns)) c.in-Spread.is c.in_ok-prices.ensures.cover))
 
 pub returns-in-Spread-clause-causes : goal.returns-in-Spread-clause-causes
 returns-in-Spread-clause-causes c =
@@ -88,15 +88,15 @@ returns-in-Spread-clause-causes c =
 
 pub returns-in-Bare-clause-ok : goal.returns-in-Bare-clause-ok
 returns-in-Bare-clause-ok c =
-    let t : HasCause c.args.tally.now c.bounded_turn.new.tally × IsOpenAsk c.args.mill.now c.args.self.now.path c.in-Bare.ask =
-    turn_at c.args.mill.now c.limits-limits.result (limits_of c.args.self.now) c.args.decisions.now.list c.args.self.now.path c.args.tally.now c.bounded_turn.new.tally c.in_ok-prices.field-0 (BareTurn c.in-Bare.ask) c.limits-limits.ensures c.requires.place.list c.in-Bare.is c.in_ok-prices.ensures.turned in
-    IfOk-weaker c.go_down.result (IsSplitUnder c.in-Bare.ask Bare c.args.nodes.now.limit c.args.self.now c.go_down.new.self) (IsStepped c.args.mill.now c.args.nodes.now.limit c.args.self.now c.go_down.new.self)
-    (split_step c.args.mill.now c.args.nodes.now.limit c.args.self.now c.go_down.new.self c.requires.tree c.requires.room c.in-Bare.ask Bare t.1 tt) c.go_down.ensures.ok
+    let t : HasCause c.args.tally.now c.bounded_turn.new.tally × IsOpenAsk c.args.place.now.mill.now c.args.self.now.path c.in-Bare.ask =
+    turn_at c.args.place.now.mill.now c.limits-limits.result (limits_of c.args.self.now) c.args.place.now.decisions.list c.args.self.now.path c.args.tally.now c.bounded_turn.new.tally c.in_ok-prices.field-0 (BareTurn c.in-Bare.ask) c.limits-limits.ensures c.requires.place.list c.in-Bare.is c.in_ok-prices.ensures.turned in
+    IfOk-weaker c.go_down.result (IsSplitUnder c.in-Bare.ask Bare c.args.nodes.now.limit c.args.self.now c.go_down.new.self) (IsStepped c.args.place.now.mill.now c.args.nodes.now.limit c.args.self.now c.go_down.new.self)
+    (split_step c.args.place.now.mill.now c.args.nodes.now.limit c.args.self.now c.go_down.new.self c.requires.tree c.requires.room c.in-Bare.ask Bare t.1 tt) c.go_down.ensures.ok
 
 pub returns-in-Bare-clause-causes : goal.returns-in-Bare-clause-causes
 returns-in-Bare-clause-causes c =
-    let t : HasCause c.args.tally.now c.bounded_turn.new.tally × IsOpenAsk c.args.mill.now c.args.self.now.path c.in-Bare.ask =
-    turn_at c.args.mill.now c.limits-limits.result (limits_of c.args.self.now) c.args.decisions.now.list c.args.self.now.path c.args.tally.now c.bounded_turn.new.tally c.in_ok-prices.field-0 (BareTurn c.in-Bare.ask) c.limits-limits.ensures c.requires.place.list c.in-Bare.is c.in_ok-prices.ensures.turned in
+    let t : HasCause c.args.tally.now c.bounded_turn.new.tally × IsOpenAsk c.args.place.now.mill.now c.args.self.now.path c.in-Bare.ask =
+    turn_at c.args.place.now.mill.now c.limits-limits.result (limits_of c.args.self.now) c.args.place.now.decisions.list c.args.self.now.path c.args.tally.now c.bounded_turn.new.tally c.in_ok-prices.field-0 (BareTurn c.in-Bare.ask) c.limits-limits.ensures c.requires.place.list c.in-Bare.is c.in_ok-prices.ensures.turned in
     split_causes c.args.self.now c.go_down.new.self c.args.tally.now c.bounded_turn.new.tally c.in_ok-prices.ensures.counters c.go_down.result c.in-Bare.ask Bare c.args.nodes.now.limit (λ _. t.0) c.go_down.ensures.ok c.go_down.ensures.err
 
 pub returns-in-Bare-clause-counts : goal.returns-in-Bare-clause-counts

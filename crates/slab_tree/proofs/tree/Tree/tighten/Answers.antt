@@ -1,10 +1,10 @@
 use Rattle.std.proofs.Common.{◌≡◌, ◌+◌, ◌≤◌, ◌∷◌, [], List, length, refl, sym, ap, subst, ◌∙◌, arith, inl}
 use Rattle.mill_model.specs.Mill.{Mill}
 use Rattle.slab_tree.specs.declared.node.Node.{Node}
-use Rattle.slab_tree.specs.Rewriting.{IsSameTree, IsRewriting, IsRewritten, IsWalk, HasRoom, IsTallied}
+use Rattle.slab_tree.specs.Rewriting.{IsRewriting, IsRewritten, IsWalk, IsTallied}
 use Rattle.slab_tree.specs.Searches.{Search, IsFinished, HasLimitsBelow, bare_count}
 use Rattle.slab_tree.specs.Counts.{Counts}
-use Rattle.slab_tree.specs.Tightening.{MayCountBare}
+use Rattle.slab_tree.specs.Tightening.{IsSameTree, HasRoom, MayCountBare, AreBareCounted, covered_count}
 use Rattle.slab_tree.specs.declared.tree.Phase.TheVariants.{Running}
 use Rattle.slab_tree.proofs.BareMarks.{tallied_trans, kept_trans}
 use Rattle.slab_tree.proofs.Rewriting.{begins_anew, walks_on, ends_anew, same_trans, same_limits, tightened}
@@ -19,7 +19,7 @@ begun m old new rest n done room e f = (
   same_limits old new same done.limits,
   omega (arith, ap length f, ap (λ (t : Search). length t.nodes) e),
   subst (λ (ns : List Node). HasRoom n ns) (sym f) room,
-  record { no_more = omega (arith, none); counted = inl (omega (arith, none, ap bare_count f)) },
+  record { no_more = omega (arith, none); once = omega (arith, ap covered_count f); counted = inl (omega (arith, none, ap bare_count f)) },
   none,
 )
   where

@@ -1,7 +1,8 @@
 use Rattle.std.proofs.Common.{◌≡◌, ◌+◌, ◌≤◌, [], length}
 use Rattle.slab_relax.specs.Tallies.{AreNoLess, HaveCauses}
 use Rattle.slab_tree.specs.declared.tree.Phase.TheVariants.{Running}
-use Rattle.slab_tree.specs.Rewriting.{IsSameTree, IsWalk, AreKept, HasRoom, IsTallied}
+use Rattle.slab_tree.specs.Rewriting.{IsWalk, AreKept, IsTallied}
+use Rattle.slab_tree.specs.Tightening.{IsSameTree, HasRoom}
 use Rattle.slab_tree.specs.Searches.{HasLimitsBelow, bare_count}
 use Rattle.slab_tree.specs.Stepping.{IsWorkplace}
 use Rattle.slab_tree.proofs.tree.Tree.tighten.Given as goal

@@ -5,7 +5,7 @@ use Rattle.std.specs.Str.Parse.{digits_value}
 use Rattle.std.proofs.lemmas.Fmt.{decimal_is_IsNumeral}
 use Rattle.std.proofs.lemmas.Bool.{leb-true, le-leb}
 use Rattle.std.proofs.lemmas.Slice.Eq.{bytes_eq-Decides}
-use Rattle.slab_front.specs.Words.{number_named}
+use Rattle.run_words.specs.Words.{number_named}
 
 taken : (b c d : Bool) (v : ℕ) → b ≡ true → c ≡ true → d ≡ true → (if b && (c && d) then Some v else None) ≡ Some v
 taken true true true v p q r = refl
