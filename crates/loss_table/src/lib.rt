@@ -5,4 +5,3 @@ mod least_size;
 mod loss_table;
 
 pub use loss_table::LossTable;
-

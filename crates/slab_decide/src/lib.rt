@@ -12,4 +12,3 @@ mod open_asks;
 
 pub use clash::Clash;
 pub use decisions::Decisions;
-

@@ -11,4 +11,3 @@ mod swept;
 
 pub use sweeping::sweep;
 pub use swept::Swept;
-
