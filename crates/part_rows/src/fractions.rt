@@ -2,6 +2,7 @@
 ghost use Rattle.std.specs.Prelude.{◌≡◌, ◌≤◌, ◌≢◌, ◌^◌, pos, unsigned_abs, IsTrue};
 
 use slab_frac::{Frac, Wides, scale_all};
+use std::cmp::Ordering;
 use std::test::Fail;
 
 // The greatest numerator and denominator.
@@ -79,16 +80,28 @@ fn less_a_product(rt: HostRuntime) {
 }
 
 // The least common denominator of two fractions, and their numerators over it.
-fn scaled(first: Parts, second: Parts) -> Option<(i64, [i64; 2])> {
-    let mut wides = Wides::new();
-    let list = [fraction(first, &mut wides)?, fraction(second, &mut wides)?];
+fn scaled(first: Parts, second: Parts, wides: &mut Wides) -> Option<(i64, [i64; 2])> {
+    let list = [fraction(first, wides)?, fraction(second, wides)?];
     let mut out = [0, 0];
-    let shared = scale_all(&list, &mut wides, &mut out)?;
+    let shared = scale_all(&list, wides, &mut out)?;
     Some((shared, out))
 }
 
 #[test]
 fn common_denominators(rt: HostRuntime) {
-    assert!(rt; scaled((1, 2), (-1, 6)) == Some((6, [3, -1])));
-    assert!(rt; scaled((1, END), (1, 3)) == None);
+    let mut wides = Wides::new();
+    assert!(rt; scaled((1, 2), (-1, 6), &mut wides) == Some((6, [3, -1])));
+    assert!(rt; wides.count() == 0);
+    assert!(rt; scaled((1, END), (1, 3), &mut wides) == None);
+    assert!(rt; wides.count() == 1);
+}
+
+#[test]
+fn a_half_is_more_than_a_third(rt: HostRuntime) {
+    let mut wides = Wides::new();
+    let order = match (fraction((1, 2), &mut wides), fraction((1, 3), &mut wides)) {
+        (Some(half), Some(third)) => half.cmp(&third),
+        _ => Ordering::Equal,
+    };
+    assert!(rt; order == Ordering::Greater);
 }

@@ -1,4 +1,4 @@
-//! Leaves that a reader can test by hand, where the loss is limited.
+//! Leaves that a reader can test by hand, where the loss is at most 2.
 ghost use Rattle.std.specs.Prelude.{◌≡◌, ◌<◌, ◌∷◌, [], true, IfOk, length};
 
 use crate::mills::{NO_YARD, THREE_COLOURS, THREE_FIVES, mill_of};
@@ -62,13 +62,7 @@ fn path_of(alloc: Global, mill: &Mill, together: Option<bool>) -> Result<Path, A
     Ok(path)
 }
 
-fn came_to(
-    alloc: Global,
-    given: Given,
-    together: Option<bool>,
-    loss: i64,
-    text: &str,
-) -> Result<Came, Fail> {
+fn came_to(alloc: Global, given: Given, together: Option<bool>, text: &str) -> Result<Came, Fail> {
     let (orders, yard, colours) = given;
     let mill = mill_of(alloc, orders, yard, colours)?;
     let mut path = path_of(alloc, &mill, together)?;
@@ -76,7 +70,7 @@ fn came_to(
         return Ok(Came::Nothing);
     };
     let limits = Limits {
-        loss: Some(loss),
+        loss: Some(2),
         count: None,
     };
     match path.leaf_ok(&mill, limits, &numbers) {
@@ -120,7 +114,7 @@ fn a_leaf_comes_to(rt: HostRuntime) -> Result<(), Fail> {
         (FIVES, apart, "leaf 1 0 5 5 -5\n", Came::Refutes),
     ] {
         assert!(rt;
-            came_to(rt.alloc(), given, together, 2, text)? == came,
+            came_to(rt.alloc(), given, together, text)? == came,
             "{text}"
         );
     }

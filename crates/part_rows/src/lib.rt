@@ -1,5 +1,7 @@
 //! Rows of single parts: what one call of a crate below the top answers, on numbers and mills that a reader can compute by
 //! hand.
+//!
+//! Read `mills` (a mill by its files) and `decided` (decisions in it) first; each other module is one part, and reads alone.
 #![tactic(auto)]
 
 #[cfg(test)]

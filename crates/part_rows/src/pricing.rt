@@ -26,7 +26,7 @@ struct Case {
     sigma: &'static [i64],
 }
 
-// The orders of three colours, where the last two are worth 4.
+// The orders of three colours, with the small slab.
 fn colours(colours: u16, apart: bool, mu: i8, pi: &'static [i64], sigma: &'static [i64]) -> Case {
     Case {
         orders: THREE_COLOURS,

@@ -160,8 +160,10 @@ fn a_question_comes_to(rt: HostRuntime) -> Result<(), Fail> {
 }
 
 // The number of nodes isn't fixed.
-fn losses() -> [(Question, u32); 4] {
+fn losses() -> [(Question, u32); 5] {
     [
+        // no plan is handed in
+        ((THREE_PAIRS, "0", 2, false, 100), 5),
         ((THREE_PAIRS, "1 10 1 1 1", 2, true, 100), 5),
         // three colours: two slabs; a sixth of each three orders covers them without loss
         ((FIVE_COLOURS, "0", 3, true, 1000), 3),

@@ -1,4 +1,4 @@
-//! Which call fails by the table, and what is left of a run that goes on after it.
+//! A desk of which one call fails, told by its number, and what is left of a run that goes on after it.
 use slab_desk::{Act, Desk, MemDesk, ReadFail, read_all, say_all, write_all};
 use std::alloc::{AllocError, Global};
 use std::test::Fail;

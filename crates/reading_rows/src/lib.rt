@@ -1,4 +1,5 @@
-//! Rows of what is read and written: the words of input files, the lines of certificates, and the calls of a desk.
+//! Rows of what is read and written. Read `files` (input files), `lines` and `pieces` (lines of certificates), `desks` and `real`
+//! (the ends of a desk), and `written` (certificates, summaries, and lines that fill a buffer).
 #![tactic(auto)]
 
 #[cfg(test)]

@@ -1,4 +1,5 @@
-//! What is written of parts that no run here writes: a certificate of version 1, a cut within a tree, the summary of a cut.
+//! Texts that no run of `worked_rows` writes: a certificate of version 1, a cut within a tree, the summary of a cut; and more
+//! lines than a buffer holds.
 ghost use Rattle.std.specs.Prelude.{◌≡◌, false, [], IfOk};
 ghost use Rattle.mill_model.specs.Marks.{is_question};
 
