@@ -1,7 +1,7 @@
 -- The different colours of a list, as they are seen one after another.
 use Rattle.std.proofs.Common.{◌≡◌, ℕ, suc, Bool, true, false, cond, ◌||◌, eqb, List, [], ◌∷◌, ◌++◌, length, refl, sym, ap, ◌∙◌, inl, inr, arith, length-append, length-take, append-nil, map, take, drop, get_or, ◌+◌, ◌<◌, ◌≤◌}
-use Rattle.std.proofs.lemmas.Bool.{cases_Bool, eqb-true, eq-eqb, ne_eqb}
-use Rattle.std.proofs.lemmas.List.{take_more, take-append-drop, map-append}
+use Rattle.std.proofs.lemmas.Bool.{cases_Bool, cond-false, eqb-true, eq-eqb, ne_eqb}
+use Rattle.std.proofs.lemmas.List.{take_more, take-append-drop, map-append, map_more}
 use Rattle.mill_model.specs.Mill.{Mill}
 use Rattle.mill_model.specs.Columns.{has, different, order_at, colours_of}
 use Rattle.mill_model.specs.Plans.{places_of}
@@ -63,3 +63,14 @@ one_more_colour m k place o colours limit are h e fresh all_taken =
     let more : different (colours_to m k place (o + 1)) ≡ suc (different (colours_to m k place o)) =
     ap different (colours_with m k place o h e) ∙ different-push (colours_to m k place o) (order_at m o).colour ∙ ap (λ (b : Bool). cond b (different (colours_to m k place o)) (suc (different (colours_to m k place o)))) (sym (are.same (order_at m o).colour) ∙ fresh) in
     omega (arith, ap different all, more, are.count, different-append_le (colours_to m k place (o + 1)) (map (λ (x : ℕ). (order_at m x).colour) (places_of k (0 + length (take (o + 1) place)) (drop (o + 1) place))))
+
+-- ---- the colours of a list of orders
+
+-- one colour more than so many in a list
+pub too_many_listed : (f : ℕ → ℕ) (xs colours : List ℕ) (i limit : ℕ) → i < length xs → AreColours colours (map f (take i xs)) → has colours (f (get_or xs i 0)) ≡ false → limit ≤ length colours → limit < different (map f xs)
+too_many_listed f xs colours i limit h are fresh full =
+    let part : map f xs ≡ map f (take (i + 1) xs) ++ map f (drop (i + 1) xs) = ap (λ ys. map f ys) (sym (take-append-drop (i + 1) xs)) ∙ map-append f (take (i + 1) xs) (drop (i + 1) xs) in
+    let more : map f (take (i + 1) xs) ≡ map f (take i xs) ++ f (get_or xs i 0) ∷ [] = map_more f xs i 0 h in
+    let count : different (map f (take i xs) ++ f (get_or xs i 0) ∷ []) ≡ different (map f (take i xs)) + 1 =
+    different-push (map f (take i xs)) (f (get_or xs i 0)) ∙ cond-false (has (map f (take i xs)) (f (get_or xs i 0))) (different (map f (take i xs))) (suc (different (map f (take i xs)))) (sym (are.same (f (get_or xs i 0))) ∙ fresh) ∙ omega arith in
+    omega (arith, ap different part, ap different more, count, are.count, different-append_le (map f (take (i + 1) xs)) (map f (drop (i + 1) xs)))

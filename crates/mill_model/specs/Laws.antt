@@ -21,7 +21,7 @@ use Rattle.mill_model.specs.Columns.{Column, size_of}
 use Rattle.mill_model.specs.Judging.{first_broken}
 use Rattle.mill_model.specs.Assignments.{Assignment, Agrees, Follows}
 use Rattle.mill_model.specs.Covers.{Part, IsCover}
-use Rattle.mill_model.specs.Fronts.{IsUndominated, IsFront, Point, FallsBelow, IsGoodHead, IsGoodWhole, last_sums, sums_list}
+use Rattle.mill_model.specs.Fronts.{IsUndominated, IsFront, Covers, Point, FallsBelow, IsGoodHead, IsGoodWhole, last_sums, sums_list}
 
 -- The sizes of a legal plan's slabs sum to its loss and the weights of all orders.
 abbrev pub SizesAreLossAndWeights : Type 0
@@ -100,6 +100,10 @@ PlainMarksClaimNothing = (m : Mill) (limits : Limits) (decisions : List Decision
 -- A mill has at most one Pareto front.
 abbrev pub OneFront : Type 0
 OneFront = (m : Mill) (xs ys : List Sums) → IsFront m xs → IsFront m ys → xs ≡ ys
+
+-- Some point of a front is at most an attained pair in both numbers.
+abbrev pub FrontsCoverAttainedPairs : Type 0
+FrontsCoverAttainedPairs = (m : Mill) (xs : List Sums) (x : Sums) → IsFront m xs → IsAttained m x → Covers xs x
 
 -- A tree, finished or not, has at most 2 ^ (m + 1) - 1 nodes, where the mill has m questions.
 abbrev pub TreesHaveFewNodes : Type 0

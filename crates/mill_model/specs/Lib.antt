@@ -5,6 +5,7 @@ pub mod Columns
 pub mod Plans
 pub mod Decisions
 pub mod Prices
+pub mod LentPrices
 pub mod Trees
 pub mod Covers
 pub mod Shares

@@ -31,6 +31,26 @@ most_slabs = 40
 abbrev pub most_bars : ℕ
 most_bars = 10000
 
+-- no legal plan loses more, and no mill's orders weigh more together
+abbrev pub most_loss : ℕ
+most_loss = 2500000
+
+-- no legal plan has more new slabs
+abbrev pub most_count : ℕ
+most_count = 250
+
+-- a front has at most so many points
+abbrev pub most_points : ℕ
+most_points = 251
+
+-- an order, yard or plan file has at most so many bytes
+abbrev pub most_bytes : ℕ
+most_bytes = 1048576
+
+-- a certificate file that is read whole has at most so many bytes
+abbrev pub most_certificate_bytes : ℕ
+most_certificate_bytes = 268435456
+
 -- a bar: an order, and a surplus slab on which it mustn't lie
 abbrev pub Bar : Type 0
 Bar = ℕ × ℕ

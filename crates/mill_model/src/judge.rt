@@ -3,9 +3,8 @@
 ghost use Rattle.std.specs.Prelude.{◌≡◌, ◌<◌, ◌≤◌, ◌^◌, ◌∷◌, nat_eq, nat_lt, length, map, flat_map, sum_by, count_by, OnOk};
 ghost use Rattle.std.specs.List.{range_with_len, list_any};
 ghost use Rattle.mill_model.specs.Mill.{most_orders};
-ghost use Rattle.mill_model.specs.Columns.{is_old as is_surplus, size_of as size_of_kind, load, colours_of, is_barred, has_barred};
+ghost use Rattle.mill_model.specs.Columns.{size_of as size_of_kind, load, colours_of, is_barred, has_barred};
 ghost use Rattle.mill_model.specs.Plans.{places_of, IsLegal, is_new, sums_of};
-ghost use Rattle.mill_model.specs.Plain.{total_weight as weight_of_orders};
 ghost use Rattle.mill_model.specs.Judging.{rules_of, slab_rules, AnswersFirst, is_unlisted, is_missing, is_among};
 
 use crate::colour_set::ColourSet;
@@ -123,21 +122,11 @@ fn has_surplus(kinds: &[Kind], slab: u16) -> bool
     ensures { result ≡ is_among kinds.now (Kind.Old slab) }
 {
     for kind in kinds {
-        if is_old(*kind, slab) {
+        if kind.is_surplus(slab) {
             return true;
         }
     }
     false
-}
-
-// Whether this is that surplus slab.
-fn is_old(kind: Kind, slab: u16) -> bool
-    ensures { result ≡ is_surplus slab kind }
-{
-    match kind {
-        Kind::New(_) => false,
-        Kind::Old(other) => other == slab,
-    }
 }
 
 // What the orders on slab k weigh together.
@@ -205,7 +194,7 @@ pub fn sums(mill: &Mill, plan: &Plan) -> Sums
     let orders = mill.orders().len();
     prove!(orders <= MOST_ORDERS as usize);
     Sums {
-        loss: total_size(mill, plan.kinds()) - total_weight(mill),
+        loss: total_size(mill, plan.kinds()) - mill.total_weight(),
         count: new_slabs(plan.kinds()),
     }
 }
@@ -222,19 +211,6 @@ fn total_size(mill: &Mill, kinds: &[Kind]) -> u32
     sum
 }
 
-// What all orders weigh.
-fn total_weight(mill: &Mill) -> u32
-    ensures { result ≡ weight_of_orders mill.now }
-{
-    let orders = mill.orders();
-    prove!(orders.len() <= MOST_ORDERS as usize);
-    let mut sum: u32 = 0;
-    for order in orders {
-        sum += u32::from(order.weight);
-    }
-    sum
-}
-
 // How many of these slabs are new.
 fn new_slabs(kinds: &[Kind]) -> u16
     requires { length kinds.now ≤ most_orders }
@@ -242,19 +218,9 @@ fn new_slabs(kinds: &[Kind]) -> u16
 {
     let mut count: u16 = 0;
     for kind in kinds {
-        if is_new_slab(*kind) {
+        if kind.is_new() {
             count += 1;
         }
     }
     count
-}
-
-// Whether this is a new slab.
-fn is_new_slab(kind: Kind) -> bool
-    ensures { result ≡ is_new kind }
-{
-    match kind {
-        Kind::New(_) => true,
-        Kind::Old(_) => false,
-    }
 }

@@ -1,6 +1,6 @@
 //! The laws that join the definitions. Each is the contract of a function that does nothing.
 
-ghost use Rattle.mill_model.specs.Laws.{PricesExcludePlans, PlansAnswerOnce, PlansAgreeBySlabs, TreesExcludePlans, TreesServeSmallerLimits, WholeCertificatesGiveTheFront, NoPointMeansNoPlan, GoodHeadsBeginTheFront, NoCoverWhereRefuted, OneFront, TreesHaveFewNodes, StepsBeginOneTree, MarkedStepsBeginOneTree, CoversServeGreaterLimits, ShownCoversExcludePrices, PlainMarksClaimNothing, PlansAgreeWithWhatFollows, ColumnsAgreeWithWhatFollows, SizesAreLossAndWeights, LegalPlansBreakNoRule, PlainlyRefutedLimitsAreRefuted};
+ghost use Rattle.mill_model.specs.Laws.{PricesExcludePlans, PlansAnswerOnce, PlansAgreeBySlabs, TreesExcludePlans, TreesServeSmallerLimits, FrontsCoverAttainedPairs, WholeCertificatesGiveTheFront, NoPointMeansNoPlan, GoodHeadsBeginTheFront, NoCoverWhereRefuted, OneFront, TreesHaveFewNodes, StepsBeginOneTree, MarkedStepsBeginOneTree, CoversServeGreaterLimits, ShownCoversExcludePrices, PlainMarksClaimNothing, PlansAgreeWithWhatFollows, ColumnsAgreeWithWhatFollows, SizesAreLossAndWeights, LegalPlansBreakNoRule, PlainlyRefutedLimitsAreRefuted};
 
 /// The sizes of a legal plan's slabs sum to its loss and the weights of all orders: the loss isn't cut off at 0.
 pub fn sizes_are_loss_and_weights()
@@ -15,6 +15,11 @@ pub fn legal_plans_break_no_rule()
 /// A mill has at most one Pareto front.
 pub fn a_mill_has_one_front()
     ensures { OneFront }
+{}
+
+/// A front covers every attained pair: some point of it is at most the pair in loss and in count.
+pub fn fronts_cover_attained_pairs()
+    ensures { FrontsCoverAttainedPairs }
 {}
 
 /// Refuting prices exclude plans (Farkas' lemma, the sound half).

@@ -45,6 +45,14 @@ impl Plan {
         &self.place
     }
 
+    /// The sums of a legal plan, which isn't judged.
+    pub fn sums(&self, mill: &Mill) -> Sums
+        requires { IsLegal mill.now self.now }
+        ensures { result ≡ sums_of mill.now self.now }
+    {
+        sums(mill, self)
+    }
+
     /// The sums of a legal plan, or the first rule that the plan breaks: of its places, then of each slab in turn.
     pub fn judge(&self, mill: &Mill) -> Result<Sums, Illegal>
         ensures legal { IfOk result (λ sums. IsLegal mill.now self.now × (sums ≡ sums_of mill.now self.now)) }

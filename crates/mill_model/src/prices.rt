@@ -1,6 +1,8 @@
 ghost use Rattle.std.specs.Prelude.{◌≡◌};
 ghost use Rattle.mill_model.specs.Prices.{ArePrices};
+ghost use Rattle.mill_model.specs.LentPrices.{prices_lent};
 
+use crate::LentPrices;
 use std::marker::Model;
 
 /// Dual prices: of one unit of loss, of one new slab, of each order and of each surplus slab, each at most 2^62 in absolute value.
@@ -33,6 +35,18 @@ impl Prices {
             mu,
             pi,
             sigma,
+        }
+    }
+
+    /// The prices, lent.
+    pub fn lend(&self) -> LentPrices<'_>
+        ensures { prices_lent result ≡ self.now }
+    {
+        LentPrices {
+            lambda: self.lambda(),
+            mu: self.mu(),
+            pi: self.pi(),
+            sigma: self.sigma(),
         }
     }
 
