@@ -3,7 +3,7 @@ ghost use Rattle.mill_model.specs.Limits.{number_of};
 ghost use Rattle.mill_model.specs.SignedSums.{total_by};
 ghost use Rattle.mill_model.specs.Prices.{IsPrice, ArePrices, most_price};
 
-use crate::Limits;
+use crate::{Kind, Limits};
 
 /// Dual prices as they are lent, each at most 2^62 in absolute value: what is asked of them before any column.
 #[derive(Clone, Copy)]
@@ -20,7 +20,7 @@ pub struct LentPrices<'a> {
 }
 
 impl LentPrices<'_> {
-    ghost use Rattle.mill_model.specs.Prices.{HasSigns, HasLimits, IsWorth};
+    ghost use Rattle.mill_model.specs.Prices.{HasSigns, HasLimits, IsWorth, charge as charge_of};
     ghost use Rattle.mill_model.specs.LentPrices.{prices_lent};
 
     /// Whether none of the prices of loss, of a new slab and of the surplus slabs is negative.
@@ -35,6 +35,17 @@ impl LentPrices<'_> {
         ensures { IsTrue result ↔ HasLimits limits (prices_lent self.now) }
     {
         (limits.loss.is_some() || self.lambda == 0) && (limits.count.is_some() || self.mu == 0)
+    }
+
+    /// What a slab costs at these prices, beside its loss: 0 for a surplus slab that has no price.
+    pub fn charge(&self, kind: Kind) -> i64
+        ensures value { result ≡ charge_of (prices_lent self.now) kind }
+        ensures range { IsPrice result }
+    {
+        match kind {
+            Kind::New(_) => self.mu,
+            Kind::Old(slab) => self.sigma.get(usize::from(slab)).copied().unwrap_or(0),
+        }
     }
 
     /// Whether the orders are worth more than any slabs within the limits cost.
