@@ -1,0 +1,5 @@
+mod Gcd
+mod Order
+mod Extremes
+mod Points
+mod Fronts
