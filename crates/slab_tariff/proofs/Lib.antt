@@ -3,3 +3,5 @@ mod Order
 mod Extremes
 mod Points
 mod Fronts
+mod Slopes
+mod Touching

@@ -10,6 +10,8 @@ mod laws;
 mod ratio;
 mod span;
 mod spans;
+#[cfg(test)]
+mod tests;
 
 pub use costs::cheapest;
 pub use laws::{
