@@ -1,8 +1,7 @@
 //! The rules of a plan, tested in their order.
 
-ghost use Rattle.std.specs.Prelude.{◌≡◌, ◌<◌, ◌≤◌, ◌^◌, ◌∷◌, nat_eq, nat_lt, length, map, flat_map, OnOk};
+ghost use Rattle.std.specs.Prelude.{◌≡◌, ◌<◌, ◌^◌, ◌∷◌, nat_eq, nat_lt, length, map, flat_map, OnOk};
 ghost use Rattle.std.specs.List.{range_with_len, list_any};
-ghost use Rattle.mill_model.specs.Mill.{most_orders};
 ghost use Rattle.mill_model.specs.Columns.{load, colours_of, is_barred, has_barred};
 ghost use Rattle.mill_model.specs.Plans.{places_of, IsLegal, sums_of};
 ghost use Rattle.mill_model.specs.Judging.{rules_of, slab_rules, AnswersFirst, is_unlisted, is_missing};
