@@ -45,9 +45,6 @@ below_high low n [] i d r h = absurd (omega arith)
 below_high low n (o ∷ orders) zero d r h = r.1
 below_high low n (o ∷ orders) (suc i) d r h = below_high (o + 1) n orders i d r.2 (omega arith)
 
-pub load_more : (m : Mill) (orders : List ℕ) (i d : ℕ) → i < length orders → load m (drop i orders) ≡ (order_at m (get_or orders i d)).weight + load m (drop (i + 1) orders)
-load_more m orders i d h = sum_by-drop_more (λ o. (order_at m o).weight) orders i d h
-
 -- ---- a column of the master
 
 single : (n k : ℕ) (z : ℤ) → k < n → IsSmall z → IsColumn n ((k, z) ∷ [])
