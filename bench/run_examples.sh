@@ -50,8 +50,8 @@ same csv_to_orders.sh <<'END'
 3 2
 END
 cp "$here/said" "$here/orders"
-printf 'colour 1: hot\ncolour 2: pickled\n' > "$here/wanted"
-cp "$here/told" "$here/said"; same "csv_to_orders.sh, its names" < "$here/wanted"
+cp "$here/told" "$here/said"
+printf 'colour 1: hot\ncolour 2: pickled\n' | same "csv_to_orders.sh, its names"
 
 printf '4,1\nx,2\n' > "$here/bad.csv"
 ended 1 "csv_to_orders.sh, a bad weight" sh csv_to_orders.sh "4 10" "$here/bad.csv"
