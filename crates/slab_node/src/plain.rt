@@ -4,6 +4,7 @@ ghost use Rattle.std.specs.List.{sum};
 ghost use Rattle.mill_model.specs.Decisions.{Decision};
 ghost use Rattle.mill_model.specs.Prices.{IsPrice, Refutes};
 ghost use Rattle.mill_model.specs.Plain.{total_weight, greatest_size, IsPlainlyRefuted, weight_prices};
+ghost use Rattle.slab_node.specs.FirstPrices.{IsFirstPlain};
 ghost use Rattle.slab_node.specs.Stated.{free_prices};
 
 use mill_model::{Limits, Mill, Prices};
@@ -83,6 +84,8 @@ pub(crate) fn plain_prices(
 ) -> Result<Option<Prices>, AllocError>
     ensures some { IfOk result (λ answer. IfSome answer
         (λ p. (decisions : List Decision) → Refutes mill.now limits decisions p)) }
+    ensures first { IfOk result (λ answer. IfSome answer (IsFirstPlain mill.now limits)) }
+    ensures plain { IfOk result (λ answer. IfSome answer (λ _. IsPlainlyRefuted mill.now limits)) }
     ensures none { IfOk result (λ answer. IfNone answer (¬ IsPlainlyRefuted mill.now limits)) }
 {
     // It tells that the mill's numbers are within their limits.
