@@ -1,3 +1,5 @@
+//! Questions to a plan.
+
 /// A question to a plan (pair branching after Ryan and Foster, 1981).
 #[derive(Clone, Copy, Debug, PartialEq, Eq)]
 pub enum Ask {

@@ -1,3 +1,4 @@
+//! Bars as a table.
 ghost use Rattle.std.specs.Prelude.{◌≡◌};
 ghost use Rattle.mill_model.specs.BarTable.{is_marked, HaveAPlace, AreMarked};
 

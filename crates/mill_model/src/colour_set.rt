@@ -1,3 +1,4 @@
+//! A few different colours, counted up to the colour limit.
 ghost use Rattle.std.specs.Prelude.{◌≡◌, ◌++◌, ◌∷◌, [], ◌≤◌, false, cond, length};
 ghost use Rattle.std.specs.Bool.{OnTrue, OnFalse};
 ghost use Rattle.mill_model.specs.Mill.{most_colour_limit};

@@ -1,3 +1,4 @@
+//! Columns as they are lent.
 use crate::Kind;
 
 /// A column as it is lent: a slab, and the orders that lie on it.

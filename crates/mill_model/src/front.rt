@@ -1,3 +1,4 @@
+//! Whole certificates.
 ghost use Rattle.std.specs.Prelude.{◌≡◌};
 
 use crate::{Head, Steps};

@@ -1,3 +1,4 @@
+//! The points of a certificate.
 ghost use Rattle.std.specs.Prelude.{◌≡◌};
 
 use crate::Proved;

@@ -1,3 +1,4 @@
+//! The rules that a plan may break.
 use thiserror::Error;
 
 /// The first rule that a plan breaks: of its places, then of each slab in turn, in this order. Orders and slabs are numbered

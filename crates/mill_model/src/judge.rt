@@ -1,11 +1,10 @@
 //! The rules of a plan, tested in their order.
 
-ghost use Rattle.std.specs.Prelude.{◌≡◌, ◌<◌, ◌≤◌, ◌^◌, ◌∷◌, nat_eq, nat_lt, length, map, flat_map, sum_by, count_by, OnOk};
+ghost use Rattle.std.specs.Prelude.{◌≡◌, ◌<◌, ◌^◌, ◌∷◌, nat_eq, nat_lt, length, map, flat_map, OnOk};
 ghost use Rattle.std.specs.List.{range_with_len, list_any};
-ghost use Rattle.mill_model.specs.Mill.{most_orders};
-ghost use Rattle.mill_model.specs.Columns.{size_of as size_of_kind, load, colours_of, is_barred, has_barred};
-ghost use Rattle.mill_model.specs.Plans.{places_of, IsLegal, is_new, sums_of};
-ghost use Rattle.mill_model.specs.Judging.{rules_of, slab_rules, AnswersFirst, is_unlisted, is_missing, is_among};
+ghost use Rattle.mill_model.specs.Columns.{load, colours_of, is_barred, has_barred};
+ghost use Rattle.mill_model.specs.Plans.{places_of, IsLegal, sums_of};
+ghost use Rattle.mill_model.specs.Judging.{rules_of, slab_rules, AnswersFirst, is_unlisted, is_missing};
 
 use crate::colour_set::ColourSet;
 use crate::numbers::MOST_ORDERS;
@@ -65,7 +64,7 @@ fn judge_slab(mill: &Mill, plan: &Plan, k: u16) -> Result<(), Illegal>
     if is_not_in_yard(mill, kind) {
         return Err(Illegal::Yard(k));
     }
-    if is_used(&plan.kinds()[..k as usize], kind) {
+    if kind.is_among(&plan.kinds()[..k as usize]) {
         return Err(Illegal::Twice(k));
     }
     if load_on(mill, plan.place(), k) > u32::from(mill.size_of(kind)) {
@@ -105,28 +104,6 @@ fn is_not_in_yard(mill: &Mill, kind: Kind) -> bool
         Kind::New(_) => false,
         Kind::Old(slab) => slab as usize >= mill.yard().len(),
     }
-}
-
-// Whether this is a surplus slab that stands among these slabs.
-fn is_used(kinds: &[Kind], kind: Kind) -> bool
-    ensures { result ≡ is_among kinds.now kind }
-{
-    match kind {
-        Kind::New(_) => false,
-        Kind::Old(slab) => has_surplus(kinds, slab),
-    }
-}
-
-// Whether this surplus slab stands among these slabs.
-fn has_surplus(kinds: &[Kind], slab: u16) -> bool
-    ensures { result ≡ is_among kinds.now (Kind.Old slab) }
-{
-    for kind in kinds {
-        if kind.is_surplus(slab) {
-            return true;
-        }
-    }
-    false
 }
 
 // What the orders on slab k weigh together.
@@ -194,33 +171,7 @@ pub fn sums(mill: &Mill, plan: &Plan) -> Sums
     let orders = mill.orders().len();
     prove!(orders <= MOST_ORDERS as usize);
     Sums {
-        loss: total_size(mill, plan.kinds()) - mill.total_weight(),
-        count: new_slabs(plan.kinds()),
+        loss: mill.total_size(plan.kinds()) - mill.total_weight(),
+        count: Kind::count_new(plan.kinds()),
     }
-}
-
-// What all these slabs can hold.
-fn total_size(mill: &Mill, kinds: &[Kind]) -> u32
-    requires { length kinds.now ≤ most_orders }
-    ensures { result ≡ sum_by (size_of_kind mill.now) kinds.now }
-{
-    let mut sum: u32 = 0;
-    for kind in kinds {
-        sum += u32::from(mill.size_of(*kind));
-    }
-    sum
-}
-
-// How many of these slabs are new.
-fn new_slabs(kinds: &[Kind]) -> u16
-    requires { length kinds.now ≤ most_orders }
-    ensures { result ≡ count_by is_new kinds.now }
-{
-    let mut count: u16 = 0;
-    for kind in kinds {
-        if kind.is_new() {
-            count += 1;
-        }
-    }
-    count
 }

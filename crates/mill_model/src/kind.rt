@@ -1,3 +1,4 @@
+//! What a slab of a plan is: new, or of the yard.
 ghost use Rattle.std.specs.Prelude.{◌≡◌};
 ghost use Rattle.mill_model.specs.Columns.{is_old};
 ghost use Rattle.mill_model.specs.Plans.{is_new as is_new_slab};

@@ -1,3 +1,4 @@
+//! Dual prices as they are lent, and what is asked of them before any column.
 ghost use Rattle.std.specs.Prelude.{◌≡◌, ◌+◌, ◌≤◌, ◌*◌, ◌^◌, ◌↔◌, IsTrue, All, length, unsigned_abs, pos, ◌≤ℤ◌, ◌*ℤ◌};
 ghost use Rattle.mill_model.specs.Limits.{number_of};
 ghost use Rattle.mill_model.specs.SignedSums.{total_by};

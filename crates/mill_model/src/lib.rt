@@ -1,8 +1,8 @@
 //! The steel mill slab design problem (CSPLib problem 038) with a yard of surplus slabs: mills, plans, their Pareto front,
 //! and the certificates that prove one, with the laws that join these definitions.
 //!
-//! Read `numbers`, `order`, `yard` and `mill` first (what is given), then `kind`, `column`, `colour_set` and `loads` (slabs and the
-//! orders on them), `plan`, `sums`, `illegal` and `judge` (plans and their rules), `limits`, `ask`, `prices`, `lent_prices`, `share`, `shown`, `mark` and `steps` (what proves that no plan is better),
+//! Read `numbers`, `order`, `yard` and `mill` first (what is given), then `kind`, `kinds`, `column`, `colour_set`, `loads` and `fitting`
+//! (slabs and the orders on them), `plan`, `sums`, `illegal` and `judge` (plans and their rules), `limits`, `ask`, `prices`, `lent_prices`, `share`, `shown`, `mark` and `steps` (what proves that no plan is better),
 //! `head`, `front`, `open_tree`, `proved` and `version` (certificates), and last `laws`. Of the definitions, read `Mill`,
 //! `Columns`, `Plans`, `Judging`, `Limits`, `Decisions`, `Prices`, `Covers`, `Trees`, `Marks` and `Fronts`, in this order.
 #![tactic(auto)]
@@ -11,11 +11,13 @@ mod ask;
 mod bar_table;
 mod colour_set;
 mod column;
+mod fitting;
 mod front;
 mod head;
 mod illegal;
 mod judge;
 mod kind;
+mod kinds;
 mod laws;
 mod lent_prices;
 mod limits;

@@ -1,10 +1,9 @@
 //! What orders weigh, and what slabs lose with them.
-ghost use Rattle.std.specs.Prelude.{◌≡◌, ◌≤◌, ◌-◌, ◌^◌, length, min, nat_le};
+ghost use Rattle.std.specs.Prelude.{◌≡◌, ◌≤◌, ◌-◌, ◌^◌, length, min};
 ghost use Rattle.mill_model.specs.Mill.{most_loss, most_orders, most_weight};
-ghost use Rattle.mill_model.specs.Columns.{IsInStock, colours_of, column_of, load, loss_of as loss_of_column, order_at};
+ghost use Rattle.mill_model.specs.Columns.{IsInStock, column_of, load, loss_of as loss_of_column, order_at};
 ghost use Rattle.mill_model.specs.Plain.{greatest_size as greatest, total_weight as weight_of_orders};
 
-use crate::colour_set::ColourSet;
 use crate::{Kind, MOST_ORDERS, Mill};
 
 impl Mill {
@@ -77,19 +76,5 @@ impl Mill {
         let load = self.load_of(orders);
         let size = self.size_of(kind);
         u32::from(size).saturating_sub(load) as u16
-    }
-
-    /// Whether these orders have at most as many different colours as the orders on one slab may have.
-    pub fn has_few_colours(&self, orders: &[u16]) -> bool
-        ensures { result ≡ nat_le (colours_of self.now orders.now) self.now.colour_limit }
-    {
-        let limit = self.colour_limit();
-        let mut colours = ColourSet::new();
-        for order in orders {
-            if !colours.add(self.colour_of(*order), limit) {
-                return false;
-            }
-        }
-        true
     }
 }

@@ -1,3 +1,4 @@
+//! Why a tree asks a question.
 use crate::Shown;
 
 /// Why a finished tree asks a question: what is known of prices for the tree's limits and the decisions above it.

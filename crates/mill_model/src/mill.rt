@@ -1,3 +1,4 @@
+//! The mill: what is given.
 ghost use Rattle.std.specs.Prelude.{◌≡◌, ◌≤◌, length};
 ghost use Rattle.mill_model.specs.Mill.{IsInLimits, IsBetween, AreBarsAmong, bare_mill, with_yard, most_colour_limit, most_weight};
 ghost use Rattle.mill_model.specs.declared.kind.Kind.TheVariants.{Old};

@@ -1,3 +1,4 @@
+//! Unfinished trees.
 ghost use Rattle.std.specs.Prelude.{◌≡◌};
 
 use crate::Ask;

@@ -1,3 +1,4 @@
+//! Plans, and how one is judged.
 ghost use Rattle.std.specs.Prelude.{◌≡◌};
 
 use crate::judge::{judge_rules, sums};

@@ -1,3 +1,4 @@
+//! Dual prices.
 ghost use Rattle.std.specs.Prelude.{◌≡◌};
 ghost use Rattle.mill_model.specs.Prices.{ArePrices};
 ghost use Rattle.mill_model.specs.LentPrices.{prices_lent};

@@ -1,3 +1,4 @@
+//! Points with their proof.
 ghost use Rattle.std.specs.Prelude.{◌≡◌};
 
 use crate::{Plan, Steps, Sums};

@@ -1,3 +1,4 @@
+//! Columns with multipliers.
 ghost use Rattle.std.specs.Prelude.{◌≡◌};
 
 use crate::Kind;

@@ -1,3 +1,4 @@
+//! Covers as a certificate shows them.
 ghost use Rattle.std.specs.Prelude.{◌≡◌};
 
 use crate::Share;

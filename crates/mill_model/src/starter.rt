@@ -1,3 +1,4 @@
+//! What gives a search its first plan.
 use crate::{Mill, Plan};
 use std::alloc::{AllocError, Global};
 

@@ -1,3 +1,4 @@
+//! The steps of a search tree.
 ghost use Rattle.std.specs.Prelude.{◌≡◌};
 
 use crate::{Mark, Prices};

@@ -1,3 +1,5 @@
+//! What a plan costs.
+
 /// What a plan costs.
 #[derive(Clone, Copy, Debug, PartialEq, Eq)]
 pub struct Sums {

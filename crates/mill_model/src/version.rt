@@ -1,3 +1,5 @@
+//! The versions of certificates.
+
 /// A version of the certificate's text.
 #[derive(Clone, Copy, Debug, PartialEq, Eq)]
 pub enum Version {

@@ -1,3 +1,4 @@
+//! The yard of surplus slabs.
 ghost use Rattle.std.specs.Prelude.{◌≡◌};
 ghost use Rattle.std.specs.List.{list_any};
 ghost use Rattle.mill_model.specs.Mill.{IsYard, is_bar};

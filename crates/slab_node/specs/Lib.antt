@@ -8,6 +8,7 @@ pub mod Built
 pub mod Settled
 pub mod Stated
 pub mod Misfits
+pub mod FirstPrices
 pub mod Settlements
 pub mod Shares
 pub mod OfWholes

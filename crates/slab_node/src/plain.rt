@@ -4,22 +4,11 @@ ghost use Rattle.std.specs.List.{sum};
 ghost use Rattle.mill_model.specs.Decisions.{Decision};
 ghost use Rattle.mill_model.specs.Prices.{IsPrice, Refutes};
 ghost use Rattle.mill_model.specs.Plain.{total_weight, greatest_size, IsPlainlyRefuted, weight_prices};
+ghost use Rattle.slab_node.specs.FirstPrices.{IsFirstPlain};
 ghost use Rattle.slab_node.specs.Stated.{free_prices};
 
 use mill_model::{Limits, Mill, Prices};
 use std::alloc::{AllocError, Global};
-
-// The greatest listed size.
-fn greatest_size(mill: &Mill) -> u16
-    ensures value { result ≡ greatest_size mill.now }
-    ensures small { result ≤ 10000 }
-{
-    let mut greatest = 0;
-    for size in mill.sizes() {
-        greatest = greatest.max(*size);
-    }
-    greatest
-}
 
 // What the surplus slabs hold together.
 fn yard_size(mill: &Mill) -> u32
@@ -28,17 +17,6 @@ fn yard_size(mill: &Mill) -> u32
     let mut total = 0;
     for size in mill.yard() {
         total += u32::from(*size);
-    }
-    total
-}
-
-// What all orders weigh together.
-fn total_weight(mill: &Mill) -> u32
-    ensures { result ≡ total_weight mill.now }
-{
-    let mut total = 0;
-    for order in mill.orders() {
-        total += u32::from(order.weight);
     }
     total
 }
@@ -57,7 +35,7 @@ fn is_below_zero(limit: Option<i64>) -> bool
 fn held_by(mill: &Mill, count: i64) -> i128
     ensures { result ≡ count *ℤ pos (greatest_size mill.now) +ℤ pos (sum mill.now.yard) }
 {
-    i128::from(count) * i128::from(greatest_size(mill)) + i128::from(yard_size(mill))
+    i128::from(count) * i128::from(mill.greatest_size()) + i128::from(yard_size(mill))
 }
 
 // Whether so few new slabs and the whole yard don't hold the orders.
@@ -66,7 +44,7 @@ fn is_too_heavy(mill: &Mill, count: Option<i64>) -> bool
         (b *ℤ pos (greatest_size mill.now) +ℤ pos (sum mill.now.yard)) <ℤ pos (total_weight mill.now)) }
 {
     match count {
-        Some(count) => held_by(mill, count) < i128::from(total_weight(mill)),
+        Some(count) => held_by(mill, count) < i128::from(mill.total_weight()),
         None => false,
     }
 }
@@ -94,7 +72,7 @@ fn weight_prices(alloc: Global, mill: &Mill) -> Result<Prices, AllocError>
     for size in mill.yard() {
         sigma.push(i64::from(*size))?;
     }
-    Ok(Prices::new(0, i64::from(greatest_size(mill)), pi, sigma))
+    Ok(Prices::new(0, i64::from(mill.greatest_size()), pi, sigma))
 }
 
 // Prices that refute the limits under any decisions, where plain ones do: on a loss or a count below 0, or on more weight than
@@ -106,6 +84,8 @@ pub(crate) fn plain_prices(
 ) -> Result<Option<Prices>, AllocError>
     ensures some { IfOk result (λ answer. IfSome answer
         (λ p. (decisions : List Decision) → Refutes mill.now limits decisions p)) }
+    ensures first { IfOk result (λ answer. IfSome answer (IsFirstPlain mill.now limits)) }
+    ensures plain { IfOk result (λ answer. IfSome answer (λ _. IsPlainlyRefuted mill.now limits)) }
     ensures none { IfOk result (λ answer. IfNone answer (¬ IsPlainlyRefuted mill.now limits)) }
 {
     // It tells that the mill's numbers are within their limits.

@@ -5,9 +5,11 @@ ghost use Rattle.mill_model.specs.Limits.{AtMost};
 ghost use Rattle.mill_model.specs.Plans.{IsLegal};
 ghost use Rattle.mill_model.specs.Judging.{first_broken};
 ghost use Rattle.slab_relax.specs.AtNodes.{RefutesAt};
-ghost use Rattle.slab_node.specs.AtNodes.{IsInBoxAt};
+ghost use Rattle.slab_node.specs.AtNodes.{IsInBoxAt, IsFirstStatedAt};
+ghost use Rattle.slab_node.specs.FirstPrices.{AreStated, StatesMisfit};
 ghost use Rattle.slab_node.specs.Misfits.{slab_number};
 ghost use Rattle.slab_node.specs.Settlements.{IsSettledNode, IsSettlement, sums_by};
+ghost use Rattle.slab_node.specs.Stated.{group_loss, group_count};
 ghost use Rattle.slab_node.specs.Turns.{IfRefuted, IfInBox, IsClosed};
 
 use crate::Turned;
@@ -62,7 +64,9 @@ fn misfit(
 ) -> Result<Prices, AllocError>
     requires settlement { IsSettlement node.now settlement.now }
     requires broken { first_broken node.now.mill.now settlement.now.plan ≡ Some rule }
-    ensures { IfOk result (RefutesAt node.now) }
+    ensures refutes { IfOk result (RefutesAt node.now) }
+    ensures stated { IfOk result (StatesMisfit node.now.mill.now settlement.now.heads.items
+        settlement.now.plan rule) }
 {
     let slab = match slab_number(rule) {
         Some(slab) => slab,
@@ -87,7 +91,9 @@ fn loss_prices(
     requires legal { IsLegal node.now.mill.now settlement.now.plan }
     requires above { IsSomeAnd node.now.limits.loss
         (λ a. a <ℤ pos (sums_by node.now settlement.now).loss) }
-    ensures { IfOk result (RefutesAt node.now) }
+    ensures refutes { IfOk result (RefutesAt node.now) }
+    ensures stated { IfOk result (AreStated node.now.mill.now (pos 1) (pos 0) settlement.now.heads.items
+        (group_loss node.now.mill.now settlement.now.heads.items settlement.now.kinds.items)) }
 {
     let pi = losses_of(alloc, node.mill, &settlement.heads, &settlement.kinds)?;
     prices_by(alloc, node.mill, 1, 0, pi)
@@ -103,7 +109,9 @@ fn count_prices(
     requires legal { IsLegal node.now.mill.now settlement.now.plan }
     requires above { IsSomeAnd node.now.limits.count
         (λ b. b <ℤ pos (sums_by node.now settlement.now).count) }
-    ensures { IfOk result (RefutesAt node.now) }
+    ensures refutes { IfOk result (RefutesAt node.now) }
+    ensures stated { IfOk result (AreStated node.now.mill.now (pos 0) (pos 1) settlement.now.heads.items
+        (group_count settlement.now.kinds.items)) }
 {
     let pi = counts_of(alloc, &settlement.heads, &settlement.kinds)?;
     prices_by(alloc, node.mill, 0, 1, pi)
@@ -120,6 +128,7 @@ fn limited(
     requires legal { IsLegal node.now.mill.now settlement.plan }
     requires sums { sums ≡ sums_by node.now settlement }
     ensures refuted { IfOk result (λ t. IfRefuted t (RefutesAt node.now)) }
+    ensures stated { IfOk result (λ t. IfRefuted t (IsFirstStatedAt node.now)) }
     ensures in_box { IfOk result (λ t. IfInBox t (IsInBoxAt node.now)) }
     ensures closed { IfOk result IsClosed }
 {
@@ -141,6 +150,7 @@ fn limited(
 pub(crate) fn settle(alloc: Global, node: &Node<'_>) -> Result<Turned, AllocError>
     requires { IsSettledNode node.now }
     ensures refuted { IfOk result (λ t. IfRefuted t (RefutesAt node.now)) }
+    ensures stated { IfOk result (λ t. IfRefuted t (IsFirstStatedAt node.now)) }
     ensures in_box { IfOk result (λ t. IfInBox t (IsInBoxAt node.now)) }
     ensures closed { IfOk result IsClosed }
 {

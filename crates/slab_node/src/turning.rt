@@ -9,6 +9,7 @@ ghost use Rattle.slab_relax.specs.PoolCovers.{IsPoolCover, HasLeastLoss};
 ghost use Rattle.slab_relax.specs.AtNodes.{RefutesAt, IsCoverAt, HasLeastLossAt};
 ghost use Rattle.slab_relax.specs.Tallies.{AreNoLess, HasCause};
 ghost use Rattle.slab_node.specs.AtNodes.{IsInBoxAt, IsOpenAskAt};
+ghost use Rattle.slab_node.specs.FirstPrices.{IsFirstPlain, IsFirstStated};
 ghost use Rattle.slab_node.specs.Turns.{most_columns, emptied, IsNode, IsInBox, IsOpenAsk, IsFirstPartial, IfRefuted, IfInBox, IfSpread, IfSplits, IfBare, IfAsks, IsRefuted, IsClosed, IsTurn};
 
 use crate::choose::{Choice, choose};
@@ -100,6 +101,13 @@ pub fn turn(
     // When which answer comes.
     ensures settled { AreSettled mill.now decisions.now.list → IfOk result IsClosed }
     ensures plain { IsPlainlyRefuted mill.now limits → IfOk result IsRefuted }
+
+    // Where no relaxation is needed, the prices are the first of a list.
+    ensures first_plain { IsPlainlyRefuted mill.now limits
+        → IfOk result (λ t. IfRefuted t (IsFirstPlain mill.now limits)) }
+    ensures first_stated { (IsPlainlyRefuted mill.now limits → ⊥)
+        → AreSettled mill.now decisions.now.list
+        → IfOk result (λ t. IfRefuted t (IsFirstStated mill.now limits decisions.now.list)) }
 
     // With no cause for less the cover has the least loss that columns of the pool can have.
     ensures least { (HasCause tally.old tally.new → ⊥)

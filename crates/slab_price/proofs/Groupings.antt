@@ -1,5 +1,5 @@
 -- Orders that the decisions put together, and groups that are weighed and priced.
-use Rattle.std.proofs.Common.{◌≡◌, ℕ, ◌<◌, Bool, true, false, cond, not, ◌&&◌, List, length, get_or, refl, sym, ap, ap₂, ◌∙◌, inl, inr, arith, Option, Some, None}
+use Rattle.std.proofs.Common.{◌≡◌, ℕ, ◌<◌, Bool, true, false, not, ◌&&◌, List, length, get_or, sym, ap, ap₂, ◌∙◌, inl, inr, arith, Option, Some, None}
 use Rattle.std.specs.Prelude.{IfSome, IfNone}
 use Rattle.std.specs.Bool.{beq, OnTrue, OnFalse}
 use Rattle.std.specs.Option.{option_eq}

@@ -1,18 +1,13 @@
 -- Orders that may lie on one slab, as columns.
-use Rattle.std.proofs.Common.{◌≡◌, ◌⊎◌, inl, inr, ℕ, ◌<◌, ◌≤◌, pos, ◌≤ℤ◌, ℤ, true, false, List, All, length, refl, sym, subst, ap, ◌∙◌, arith}
+use Rattle.std.proofs.Common.{◌≡◌, inl, inr, ℕ, ◌≤◌, pos, ◌≤ℤ◌, ℤ, true, false, List, sym, subst, ◌∙◌, arith}
 use Rattle.std.specs.Prelude.{◌-ℤ◌, ◌<ℤ◌}
 use Rattle.std.proofs.lemmas.Int.{ints}
-use Rattle.std.proofs.lemmas.List.Elements.{All-contains}
 use Rattle.mill_model.specs.declared.kind.Kind.{Kind}
-use Rattle.mill_model.specs.declared.kind.Kind.TheVariants.{New, Old}
-use Rattle.mill_model.specs.Columns.{Column, IsInStock, IsLegalColumn, has_barred, size_of}
+use Rattle.mill_model.specs.Columns.{IsInStock, has_barred, size_of}
 use Rattle.mill_model.specs.Decisions.{column_agrees}
-use Rattle.mill_model.specs.LeastSizes.{IsLeastSize, IsOfLeastSize}
-use Rattle.mill_model.proofs.Bars.{new_bars_none}
-use Rattle.mill_model.proofs.Sizes.{column_agrees_any_size}
+use Rattle.mill_model.specs.LeastSizes.{IsOfLeastSize}
 use Rattle.pricing_laws.specs.Gains.{cost_of}
-use Rattle.pricing_laws.specs.Problems.{Problem, IsAllowed, ExceedAtMost, excess}
-use Rattle.pricing_laws.proofs.Excesses.{cost_rises, excess_split}
+use Rattle.pricing_laws.specs.Problems.{Problem}
 use Rattle.slab_price.specs.declared.best.Best.{Best}
 use Rattle.slab_price.specs.Excess.{IsFound}
 use Rattle.pricing_laws.specs.Packs.{IsPack}

@@ -1,9 +1,6 @@
 -- The best column so far, and what makes it better.
-use Rattle.std.specs.Prelude.{◌≡◌, ◌⊎◌, ℕ, ◌^◌, ◌<◌, ◌≤◌, ℤ, pos, ◌≤ℤ◌, unsigned_abs, List, length}
-use Rattle.mill_model.specs.declared.kind.Kind.{Kind}
-use Rattle.mill_model.specs.declared.kind.Kind.TheVariants.{New, Old}
-use Rattle.mill_model.specs.Columns.{Column, Rises, colours_of, load}
-use Rattle.pricing_laws.specs.Gains.{gains_of}
+use Rattle.std.specs.Prelude.{◌≡◌, ◌⊎◌, pos, ◌≤ℤ◌}
+use Rattle.mill_model.specs.Columns.{Column}
 use Rattle.pricing_laws.specs.Problems.{Problem, ExceedAtMost}
 use Rattle.slab_price.specs.declared.best.Best.{Best}
 use Rattle.slab_price.specs.Excess.{IsFound}

@@ -58,7 +58,7 @@ impl Task<'_> {
         ensures grows { before ≤ℤ result }
         ensures small { unsigned_abs result ≤ 2 ^ 90 }
     {
-        if load > u32::from(self.size(Kind::Old(slab))) {
+        if load > u32::from(self.mill.size_of(Kind::Old(slab))) {
             return before;
         }
         before.max(-self.cost(Kind::Old(slab)))

@@ -1,7 +1,7 @@
 //! Whether some orders are a better column than the best so far.
 ghost use Rattle.std.specs.Prelude.{◌≡◌, ◌<◌, ◌≤◌, length};
 ghost use Rattle.mill_model.specs.declared.kind.Kind.{Kind};
-ghost use Rattle.mill_model.specs.Columns.{IsInStock, has_barred, size_of};
+ghost use Rattle.mill_model.specs.Columns.{IsInStock, size_of};
 ghost use Rattle.mill_model.specs.LeastSizes.{IsOfLeastSize};
 ghost use Rattle.slab_price.specs.Tasks.{problem_of};
 ghost use Rattle.pricing_laws.specs.Packs.{IsPack, IsColumn, IsOnNew, IsOnYard};
@@ -12,22 +12,6 @@ use crate::task::Task;
 use mill_model::Kind;
 
 impl Task<'_> {
-    // Whether one of the orders mustn't lie on the slab.
-    fn has_barred(&self, kind: Kind, orders: &[u16]) -> bool
-        ensures { result ≡ has_barred self.now.mill.now
-            (record { kind = kind; orders = orders.now }) }
-    {
-        let Kind::Old(slab) = kind else {
-            return false;
-        };
-        for &order in orders {
-            if self.mill.is_barred(order, slab) {
-                return true;
-            }
-        }
-        false
-    }
-
     // Takes the orders on a slab that holds them, where that column is allowed and better than the best.
     fn offer_on(&self, kind: Kind, weight: u32, gain: i128, orders: &[u16], best: &mut Best)
         requires pack { IsPack (problem_of self.now) orders.now weight gain }
@@ -40,7 +24,7 @@ impl Task<'_> {
         if excess <= best.excess {
             return;
         }
-        if self.has_barred(kind, orders) || !self.decisions.allows(kind, orders) {
+        if self.mill.has_barred(kind, orders) || !self.decisions.allows(kind, orders) {
             return;
         }
         best.replace(kind, orders, excess);
@@ -62,7 +46,7 @@ impl Task<'_> {
         requires stock { slab < length self.now.mill.now.yard }
         ensures { IsImprovedIn self.now best.old best.new (IsColumn (Kind.Old slab) orders.now) }
     {
-        if weight <= u32::from(self.size(Kind::Old(slab))) {
+        if weight <= u32::from(self.mill.size_of(Kind::Old(slab))) {
             self.offer_on(Kind::Old(slab), weight, gain, orders, best);
         }
     }

@@ -1,15 +1,14 @@
 -- A column's entries, put together part by part.
-use Rattle.std.proofs.Common.{◌≡◌, ℕ, zero, suc, ◌+◌, ◌<◌, ◌≤◌, ℤ, pos, List, [], ◌∷◌, ◌++◌, length, get_or, take, drop, replicate, All, ap, ◌∙◌, sym, append_assoc, arith, Option, Some, None}
+use Rattle.std.proofs.Common.{◌≡◌, ℕ, zero, suc, ◌+◌, ◌<◌, ◌≤◌, ℤ, pos, List, [], ◌∷◌, ◌++◌, length, get_or, take, replicate, All, ap, ◌∙◌, sym, append_assoc, arith, Option, Some, None}
 use Rattle.std.proofs.lemmas.Int.{ints}
 use Rattle.std.proofs.lemmas.List.{take_more, map-append, replicate_more}
-use Rattle.std.proofs.lemmas.List.Sums.{sum_by-drop_more}
 use Rattle.std.proofs.lemmas.List.Elements.{All-append, All-replicate}
 use Rattle.mill_model.specs.declared.kind.Kind.{Kind}
 use Rattle.mill_model.specs.declared.kind.Kind.TheVariants.{New, Old}
 use Rattle.mill_model.specs.declared.limits.Limits.{Limits}
 use Rattle.mill_model.specs.Mill.{Mill}
 use Rattle.mill_model.specs.Limits.{number_of}
-use Rattle.mill_model.specs.Columns.{Column, IsLegalColumn, IsInStock, Rises, load, order_at, loss_of}
+use Rattle.mill_model.specs.Columns.{Column, IsLegalColumn, IsInStock, Rises, loss_of}
 use Rattle.slab_master.specs.declared.given.Sense.TheVariants.{Equal, AtMost}
 use Rattle.slab_master.specs.Given.{Entry, Row, AreRows, IsColumn, IsSmall}
 use Rattle.slab_relax.specs.Rows.{row_count, loss_row, count_row, rows_of, order_entries, slab_entries, loss_entries, count_entries, entries_of}
@@ -44,9 +43,6 @@ pub below_high : (low n : ℕ) (orders : List ℕ) (i d : ℕ) → Rises low n o
 below_high low n [] i d r h = absurd (omega arith)
 below_high low n (o ∷ orders) zero d r h = r.1
 below_high low n (o ∷ orders) (suc i) d r h = below_high (o + 1) n orders i d r.2 (omega arith)
-
-pub load_more : (m : Mill) (orders : List ℕ) (i d : ℕ) → i < length orders → load m (drop i orders) ≡ (order_at m (get_or orders i d)).weight + load m (drop (i + 1) orders)
-load_more m orders i d h = sum_by-drop_more (λ o. (order_at m o).weight) orders i d h
 
 -- ---- a column of the master
 

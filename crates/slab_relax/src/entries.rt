@@ -1,26 +1,11 @@
 //! A column as the master sees it.
 ghost use Rattle.std.specs.Prelude.{◌≡◌, ◌≤◌, ◌++◌, OnOk};
-ghost use Rattle.mill_model.specs.Columns.{IsLegalColumn, IsInStock, loss_of, column_of};
+ghost use Rattle.mill_model.specs.Columns.{IsLegalColumn, IsInStock, column_of};
 ghost use Rattle.slab_master.specs.Given.{IsColumn};
 ghost use Rattle.slab_relax.specs.Rows.{row_count, order_entries, slab_entries, loss_entries, count_entries, entries_of};
 
 use mill_model::{Kind, Limits, Mill};
 use std::alloc::AllocError;
-
-// What no order of the column takes of its slab.
-#[tactic(auto, using(crate::proofs::Putting::below_high, crate::proofs::Putting::load_more))]
-pub(crate) fn loss_of(mill: &Mill, kind: Kind, orders: &[u16]) -> u16
-    requires { IsLegalColumn mill.now (column_of kind orders.now) }
-    ensures value { result ≡ loss_of mill.now (column_of kind orders.now) }
-    ensures small { result ≤ 10000 }
-{
-    let all = mill.orders();
-    let mut rest = mill.size_of(kind);
-    for &order in orders {
-        rest -= all[order as usize].weight;
-    }
-    rest
-}
 
 // Adds the entries of the orders.
 #[tactic(auto, using(crate::proofs::Putting::orders_more))]
@@ -100,7 +85,7 @@ pub(crate) fn put_entries(
     entries.clear();
     put_orders(entries, orders)?;
     put_slab(entries, mill, kind)?;
-    let loss = loss_of(mill, kind, orders);
+    let loss = mill.loss_of(kind, orders);
     put_loss(entries, mill, limits.loss, loss)?;
     put_count(entries, mill, limits.count, kind)?;
     Ok(())

@@ -10,7 +10,6 @@ ghost use Rattle.slab_relax.specs.Masters.{IsRestricted, losses_at};
 ghost use Rattle.slab_relax.specs.Rounds.{IfCovered, IsCovered};
 ghost use Rattle.slab_relax.specs.Tallies.{AreNoLess, HasCause};
 
-use crate::entries::loss_of;
 use crate::restricted::Restricted;
 use crate::{Node, Relaxed, Tally};
 use slab_columns::{ColId, Pool};
@@ -25,7 +24,7 @@ fn loss(node: &Node<'_>, pool: &Pool, id: ColId) -> i64
     ensures small { IsSmall result }
 {
     let column = pool.column(id);
-    i64::from(loss_of(node.mill, column.kind, column.orders))
+    i64::from(node.mill.loss_of(column.kind, column.orders))
 }
 
 impl Restricted {

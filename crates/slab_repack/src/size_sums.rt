@@ -19,7 +19,7 @@ pub(crate) struct SizeSums {
 
 impl SizeSums {
     pub(crate) fn new(alloc: Global, mill: &Mill, room: u32) -> Result<SizeSums, AllocError> {
-        let weight = total_weight(mill);
+        let weight = mill.total_weight() as usize;
         let most = weight.saturating_add(room as usize);
         let work = most.saturating_mul(mill.sizes().len().saturating_add(mill.yard().len()));
         if work > MOST_WORK {
@@ -49,14 +49,6 @@ impl SizeSums {
         }
         None
     }
-}
-
-fn total_weight(mill: &Mill) -> usize {
-    let mut weight: usize = 0;
-    for order in mill.orders() {
-        weight = weight.saturating_add(usize::from(order.weight));
-    }
-    weight
 }
 
 // A surplus slab may be there too.

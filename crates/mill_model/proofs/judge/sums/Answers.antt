@@ -10,5 +10,5 @@ total_size-requires c = omega (arith, slabs_at_most_orders c.args.mill.now c.arg
 pub overflow_sub-result : goal.overflow_sub-result
 overflow_sub-result c = omega (arith, weights_within_sizes c.args.mill.now c.args.plan.now c.requires, c.total_weight.ensures.value, c.total_size.ensures, ap (λ (kinds : List Kind). sum_by (size_of c.args.mill.now) kinds) c.kinds.ensures)
 
-pub new_slabs-requires : goal.new_slabs-requires
-new_slabs-requires c = omega (arith, slabs_at_most_orders c.args.mill.now c.args.plan.now c.requires, c.orders-orders.ensures.limits.order_count, ap (λ (kinds : List Kind). length kinds) c.kinds-2.ensures)
+pub count_new-requires : goal.count_new-requires
+count_new-requires c = omega (arith, slabs_at_most_orders c.args.mill.now c.args.plan.now c.requires, c.orders-orders.ensures.limits.order_count, ap (λ (kinds : List Kind). length kinds) c.kinds-2.ensures)

@@ -1,4 +1,4 @@
-use Rattle.std.proofs.Common.{◌≡◌, ℤ, All, List, sym, subst, ◌∙◌}
+use Rattle.std.proofs.Common.{ℤ, All, List, sym, subst, ◌∙◌}
 use Rattle.mill_model.specs.Mill.{Mill}
 use Rattle.mill_model.specs.Columns.{IsLegalColumn}
 use Rattle.slab_frac.specs.Fraction.{Fraction}

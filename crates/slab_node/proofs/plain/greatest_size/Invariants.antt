@@ -1,6 +1,0 @@
-use Rattle.std.proofs.Common.{◌≡◌, ◌≤◌, max, take}
-use Rattle.std.specs.List.{fold}
-use Rattle.slab_node.proofs.plain.greatest_size.Given as goal
-
-abbrev pub invariant-loop-size : goal.invariant-loop-size
-invariant-loop-size l = record { value : l.greatest ≡ fold max 0 (take l.size-index l.mill.sizes); small : l.greatest ≤ 10000 }
