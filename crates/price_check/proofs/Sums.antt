@@ -1,10 +1,9 @@
 -- Sums and products of prices.
 use Rattle.std.proofs.Common.{◌≡◌, ℕ, ◌+◌, ◌*◌, ◌^◌, ◌<◌, ◌≤◌, ℤ, pos, ◌+ℤ◌, ◌*ℤ◌, ◌<ℤ◌, List, length, get_or, take, subst, ap, ◌∙◌, arith, to_z, of_z}
 use Rattle.std.specs.Prelude.{unsigned_abs, IsTrue}
-use Rattle.std.specs.Int.{w64, w128, int_max}
+use Rattle.std.specs.Int.{w64, w128}
 use lib.Signed.{lt_z}
-use Rattle.std.proofs.lemmas.Int.{ints, unsigned_abs-mul, int_max_is}
-use Rattle.std.proofs.lemmas.Nat.{mul-le}
+use Rattle.std.proofs.lemmas.Int.{ints}
 use Rattle.mill_model.specs.SignedSums.{total_by}
 use Rattle.mill_model.specs.Prices.{IsPrice}
 use Rattle.mill_model.proofs.Signed.{total_by-more}
