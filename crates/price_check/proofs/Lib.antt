@@ -3,7 +3,6 @@ pub mod Marks
 pub mod Trails
 pub mod Reversed
 pub mod Quotes
-pub mod Sums
 pub mod Apartness
 pub mod Groupings
 pub mod Options
