@@ -6,7 +6,6 @@ pub mod Quotes
 pub mod Apartness
 pub mod Groupings
 pub mod Options
-pub mod LeafRules
 pub mod Answering
 pub mod Packs
 pub mod CheapOrders
