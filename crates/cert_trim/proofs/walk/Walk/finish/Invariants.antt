@@ -5,12 +5,12 @@ use Rattle.mill_model.specs.Mill.{Mill}
 use Rattle.mill_model.specs.Prices.{Prices}
 use Rattle.mill_model.specs.Trees.{Tree}
 use Rattle.tree_nodes.specs.declared.node.Node.{Node}
-use Rattle.cert_trim.specs.Walks.{IsEnd, IsFor}
+use Rattle.cert_trim.specs.Walks.{IsEnd, StaysFor}
 use Rattle.cert_trim.proofs.walk.Walk.finish.Given as goal
 
 abbrev pub invariant-loop : goal.invariant-loop
 invariant-loop l = record {
-  same : (m : Mill) → IsFor m l.fn.self → IsFor m l.self;
+  same : StaysFor l.fn.self l.self;
   ends : (m : Mill) (limits : Limits) (whole : Tree Mark Prices) (rest : List Node) → IsEnd m limits whole l.fn.self rest → IsEnd m limits whole l.self rest;
 }
 

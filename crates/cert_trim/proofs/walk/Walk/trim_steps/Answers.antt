@@ -4,10 +4,10 @@ use Rattle.tree_nodes.specs.Nodes.{joined, steps_in}
 use Rattle.cert_trim.specs.Certificates.{AreTrimmedSteps}
 use Rattle.std.proofs.lemmas.Result.{IfOk-weaker}
 use Rattle.tree_nodes.proofs.StepLists.{joined_whole, steps_whole}
-use Rattle.cert_trim.proofs.tree.Walk.trim_steps.Goals as goal
+use Rattle.cert_trim.proofs.walk.Walk.trim_steps.Goals as goal
 
-pub trim_tree-requires-tree : goal.trim_tree-requires-tree
-trim_tree-requires-tree c = record {
+pub trim_tree-requires-clause-tree : goal.trim_tree-requires-clause-tree
+trim_tree-requires-clause-tree c = record {
   tree = c.requires.tree.tree;
   refutes = c.requires.tree.refutes;
   right = c.requires.tree.right;
