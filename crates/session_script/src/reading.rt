@@ -34,15 +34,15 @@ pub fn read_line(alloc: Global, text: &[u8], first: bool, orders: u16) -> Result
 fn after_keyword(
     alloc: Global,
     keyword: &[u8],
-    words: Parts<'_>,
+    rest: Parts<'_>,
     first: bool,
     orders: u16,
 ) -> Result<Line, LineError>
     requires { orders ≤ most_orders }
-    ensures given { GivesLine result (line_of_words first orders (keyword.now ∷ words.entry.parts)) }
+    ensures given { GivesLine result (line_of_words first orders (keyword.now ∷ rest.entry.parts)) }
     ensures fit { IfOk result (IsFit orders) }
 {
-    let Some(numbers) = numbers(alloc, words)? else {
+    let Some(numbers) = numbers(alloc, rest)? else {
         return Err(LineError::Bad(Why::Spelling));
     };
     let Some(form) = form_with(keyword, numbers) else {
