@@ -1,7 +1,7 @@
 //! What a script has given so far.
 ghost use Rattle.std.specs.Prelude.{◌≡◌, ◌<◌, ◌≤◌, length, IfOk, OnOk, OnErr};
 ghost use Rattle.mill_model.specs.Mill.{most_orders, most_sizes, most_slabs};
-ghost use Rattle.session_script.specs.declared.line.Line.TheVariants.{Sizes, Add, Remove, Yard};
+ghost use Rattle.session_script.specs.declared.line.Line.TheVariants as lines;
 ghost use Rattle.session_script.specs.Mills.{nothing_given, given_after, session_mill};
 ghost use Rattle.session_script.specs.Limits.{AreSizes, IsOrder};
 
@@ -32,7 +32,7 @@ impl SessionMill {
     /// A mill of these sizes, without an order and with an empty yard.
     pub fn new(alloc: Global, sizes: Vec<u16>) -> SessionMill
         requires { AreSizes 1 most_sizes sizes.items }
-        ensures { result ≡ given_after nothing_given (Sizes sizes.items) }
+        ensures { result ≡ given_after nothing_given (lines.Sizes sizes.items) }
     {
         SessionMill {
             sizes,
@@ -53,7 +53,7 @@ impl SessionMill {
     pub fn add(&mut self, order: Order) -> Result<(), AllocError>
         requires room { length self.old.orders < most_orders }
         requires order { IsOrder order }
-        ensures added { OnOk result (self.new ≡ given_after self.old (Add order)) }
+        ensures added { OnOk result (self.new ≡ given_after self.old (lines.Add order)) }
         ensures kept { OnErr result (self.new ≡ self.old) }
     {
         self.orders.push(order)?;
@@ -63,7 +63,7 @@ impl SessionMill {
     /// The order goes, and the later ones move up by one.
     pub fn remove(&mut self, order: u16)
         requires { order < length self.old.orders }
-        ensures { self.new ≡ given_after self.old (Remove order) }
+        ensures { self.new ≡ given_after self.old (lines.Remove order) }
     {
         self.orders.remove(usize::from(order));
     }
@@ -71,7 +71,7 @@ impl SessionMill {
     /// The yard is replaced.
     pub fn put_yard(&mut self, sizes: Vec<u16>)
         requires { AreSizes 0 most_slabs sizes.items }
-        ensures { self.new ≡ given_after self.old (Yard sizes.items) }
+        ensures { self.new ≡ given_after self.old (lines.Yard sizes.items) }
     {
         self.yard = sizes;
     }

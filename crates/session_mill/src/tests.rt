@@ -57,15 +57,12 @@ fn orders_come_and_go(rt: HostRuntime) -> Result<(), Fail> {
     let last = next_line(alloc, &mut lines, mill.order_count())?;
     assert!(rt; matches!(last, Line::Front) && lines.number() == 7);
     let stands = mill.mill(alloc)?;
-    assert!(rt; matches!(stands.sizes(), [4, 10]) && matches!(stands.yard(), [8]));
-    let left = matches!(
-        stands.orders(),
-        [Order {
-            weight: 5,
-            colour: 2
-        }]
-    );
-    assert!(rt; left && stands.colours() == 250);
+    let left = [Order {
+        weight: 5,
+        colour: 2,
+    }];
+    assert!(rt; stands.sizes() == [4, 10].as_slice() && stands.yard() == [8].as_slice());
+    assert!(rt; stands.orders() == left.as_slice() && stands.colours() == 250);
     Ok(())
 }
 
