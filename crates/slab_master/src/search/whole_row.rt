@@ -123,11 +123,12 @@ fn wide_shared(numbers: &[i64], other: &[i64], factors: Factors, denominator: i1
 fn shared_by(numbers: &[i64], denominator: u64) -> u64 {
     let mut shared = denominator;
     for number in numbers {
-        if shared == 1 {
+        if shared <= 1 {
             return shared;
         }
-        if *number != 0 {
-            shared = word_divisor(number.unsigned_abs(), shared);
+        let rest = number.unsigned_abs() % shared;
+        if rest != 0 {
+            shared = word_divisor(rest, shared);
         }
     }
     shared
