@@ -46,8 +46,9 @@ pub(crate) struct Basis {
     // The entering column by the basis, each cell over its row's denominator, with its reduced cost at the end.
     direction: Vec<i64>,
 
-    // Room for the row that a pivot takes out.
+    // Room for the row that a pivot takes out, and for the places where a row that is taken off others isn't 0.
     taken: WholeRow,
+    filled: Vec<usize>,
 
     // How many pivots in a row moved nothing.
     idle: usize,
@@ -71,30 +72,6 @@ fn weight_of(basic: Basic, aim: Aim, costs: &[i64]) -> i64
     }
 }
 
-// Takes each working row off the reduced costs, times what is basic there weighs. None comes only where a number left its
-// range.
-fn take_weights(
-    reduced: &mut WholeRow,
-    working: &[WholeRow],
-    basics: &[Basic],
-    aim: Aim,
-    costs: &[i64],
-    wides: &mut Wides,
-) -> Option<()>
-    requires { All IsSmall costs.now }
-    ensures grows { wides.old ≤ wides.new }
-    ensures wide { IfNone result (Rose wides.old wides.new) }
-{
-    for (row, basic) in working.iter().zip(basics) {
-        let weight = weight_of(*basic, aim, costs);
-        if weight != 0 {
-            let cell = in_range(reduced.multiple(weight), wides)?;
-            reduced.subtract(row, cell, wides)?;
-        }
-    }
-    Some(())
-}
-
 // Writes the cells of a column, one for each row. None comes only where a number left its range.
 fn fill_direction(
     direction: &mut [i64],
@@ -116,6 +93,7 @@ fn fill_direction(
 fn clear_column(
     rows: &mut [WholeRow],
     pivot: &WholeRow,
+    filled: &[usize],
     direction: &[i64],
     wides: &mut Wides,
 ) -> Option<()>
@@ -124,7 +102,7 @@ fn clear_column(
 {
     for (row, cell) in rows.iter_mut().zip(direction) {
         if *cell != 0 {
-            row.subtract(pivot, *cell, wides)?;
+            row.subtract(pivot, filled, *cell, wides)?;
         }
     }
     Some(())
@@ -173,6 +151,7 @@ impl Basis {
             aim: Aim::Meet,
             direction: Vec::new(alloc),
             taken: WholeRow::new(alloc),
+            filled: Vec::new(alloc),
             idle: 0,
             prefers: false,
             stands: false,
@@ -200,6 +179,8 @@ impl Basis {
         self.reduced.clear(width)?;
         self.direction.clear();
         self.direction.resize(width, 0)?;
+        self.filled.clear();
+        self.filled.resize(width, 0)?;
         clear_rows(working, width)?;
         put_units(working, &mut self.basics, problem)?;
         Ok(self.aim_at(Aim::Meet, problem, working, wides))
@@ -255,14 +236,31 @@ impl Basis {
     {
         self.aim = aim;
         self.reduced.fill_with_zeros();
-        take_weights(
-            &mut self.reduced,
-            working,
-            &self.basics,
-            aim,
-            problem.costs,
-            wides,
-        )
+        for (place, row) in working.iter().enumerate() {
+            self.take_weight(problem, place, row, wides)?;
+        }
+        Some(())
+    }
+
+    // Takes a working row off the reduced costs, times what is basic there weighs. None comes only where a number left its range.
+    fn take_weight(
+        &mut self,
+        problem: &Problem<'_>,
+        place: usize,
+        row: &WholeRow,
+        wides: &mut Wides,
+    ) -> Option<()>
+        ensures grows { wides.old ≤ wides.new }
+        ensures wide { IfNone result (Rose wides.old wides.new) }
+    {
+        let basic = *self.basics.get(place).unwrap_or(&Basic::Slack(0));
+        let weight = weight_of(basic, self.aim, problem.costs);
+        if weight == 0 {
+            return Some(());
+        }
+        row.write_filled(&mut self.filled);
+        let cell = in_range(self.reduced.multiple(weight), wides)?;
+        self.reduced.subtract(row, &self.filled, cell, wides)
     }
 
     // Whether so many pivots moved nothing that the next ones go by the order of the variables.
@@ -336,12 +334,14 @@ impl Basis {
     {
         let pivot = self.direction.get(row).copied().unwrap_or(1);
         self.taken.divide_by(pivot);
-        clear_column(working, &self.taken, &self.direction, wides)?;
+        self.taken.write_filled(&mut self.filled);
+        clear_column(working, &self.taken, &self.filled, &self.direction, wides)?;
         let cost = self.direction.last().copied().unwrap_or(0);
         if cost == 0 {
             return Some(());
         }
-        self.reduced.subtract(&self.taken, cost, wides)
+        self.reduced
+            .subtract(&self.taken, &self.filled, cost, wides)
     }
 
     // Exchanges a working row with the row that was taken out.

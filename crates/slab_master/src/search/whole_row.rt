@@ -59,25 +59,24 @@ fn sum_bound(left: u64, by: i64, right: u64, times: i64) -> u128 {
     first.saturating_add(second)
 }
 
-// Takes a row off another, whose own numbers stay as they are.
-fn take_multiple(numbers: &mut [i64], other: &[i64], times: i64) {
-    for (x, y) in numbers.iter_mut().zip(other) {
-        if *y != 0 {
-            *x = x.wrapping_sub(y.wrapping_mul(times));
+// Takes a row off another so many times, at the places where it isn't 0.
+fn take_multiple(numbers: &mut [i64], other: &[i64], filled: &[usize], times: i64) {
+    for &place in filled {
+        if place < numbers.len() && place < other.len() {
+            let taken = other[place].wrapping_mul(times);
+            numbers[place] = numbers[place].wrapping_sub(taken);
         }
     }
 }
 
-// Takes a row off another, both multiplied.
-fn combine(numbers: &mut [i64], other: &[i64], factors: Factors) {
-    for (x, y) in numbers.iter_mut().zip(other) {
-        *x = x
-            .wrapping_mul(factors.own)
-            .wrapping_sub(y.wrapping_mul(factors.other));
+// Multiplies a row.
+fn multiply(numbers: &mut [i64], factor: i64) {
+    for number in numbers.iter_mut() {
+        *number = number.wrapping_mul(factor);
     }
 }
 
-// The same of two numbers, in 128 bits.
+// The difference of two numbers, both multiplied, in 128 bits.
 #[inline]
 fn combined(x: i64, y: i64, factors: Factors) -> i128 {
     term(x, factors.own).wrapping_sub(term(y, factors.other))
@@ -124,11 +123,12 @@ fn wide_shared(numbers: &[i64], other: &[i64], factors: Factors, denominator: i1
 fn shared_by(numbers: &[i64], denominator: u64) -> u64 {
     let mut shared = denominator;
     for number in numbers {
-        if shared == 1 {
+        if shared <= 1 {
             return shared;
         }
-        if *number != 0 {
-            shared = word_divisor(number.unsigned_abs(), shared);
+        let rest = number.unsigned_abs() % shared;
+        if rest != 0 {
+            shared = word_divisor(rest, shared);
         }
     }
     shared
@@ -222,6 +222,16 @@ impl WholeRow {
         self.numbers.iter().filter(|number| **number != 0).count()
     }
 
+    // Writes the places of the numbers that aren't 0, as far as the list's room goes.
+    pub(crate) fn write_filled(&self, list: &mut Vec<usize>) {
+        list.clear();
+        for (place, number) in self.numbers.iter().enumerate() {
+            if *number != 0 && list.len() < list.capacity() {
+                let _ = list.push(place);
+            }
+        }
+    }
+
     // A number as a fraction, or 0 past the end.
     pub(crate) fn fraction(&self, place: usize, wides: &mut Wides) -> Frac
         ensures { wides.old ≤ wides.new }
@@ -288,9 +298,15 @@ impl WholeRow {
         self.bound = bound_of(&self.numbers);
     }
 
-    // Takes so much of another row off the row that a cell of it over its denominator is cleared, where the other's is 1. None
-    // comes only where a number left its range.
-    pub(crate) fn subtract(&mut self, other: &WholeRow, cell: i64, wides: &mut Wides) -> Option<()>
+    // Takes so much of another row, which is filled at these places, off the row that a cell of it over its denominator is cleared,
+    // where the other's is 1. None comes only where a number left its range.
+    pub(crate) fn subtract(
+        &mut self,
+        other: &WholeRow,
+        filled: &[usize],
+        cell: i64,
+        wides: &mut Wides,
+    ) -> Option<()>
         ensures grows { wides.old ≤ wides.new }
         ensures wide { IfNone result (Rose wides.old wides.new) }
     {
@@ -300,11 +316,10 @@ impl WholeRow {
         if bound > LIMIT || denominator < 1 || denominator > LIMIT as i128 {
             return self.subtract_wide(other, factors, denominator, wides);
         }
-        if factors.own == 1 {
-            take_multiple(&mut self.numbers, &other.numbers, factors.other);
-        } else {
-            combine(&mut self.numbers, &other.numbers, factors);
+        if factors.own != 1 {
+            multiply(&mut self.numbers, factors.own);
         }
+        take_multiple(&mut self.numbers, &other.numbers, filled, factors.other);
         self.bound = bound as u64;
         self.denominator = denominator as u64;
         if self.bound > LARGE || self.denominator > LARGE {
