@@ -20,7 +20,8 @@ pub fn judge_rules(mill: &Mill, plan: &Plan) -> Result<(), Illegal>
 
 // Tests that there is one place for each order, and that each is a slab.
 fn judge_places(mill: &Mill, plan: &Plan) -> Result<(), Illegal>
-    ensures first { AnswersFirst mill.now plan.now (Illegal.Places ∷ map Illegal.Place (range_with_len 0 (length plan.now.place))) result }
+    ensures first { AnswersFirst mill.now plan.now
+        (Illegal.Places ∷ map Illegal.Place (range_with_len 0 (length plan.now.place))) result }
     ensures counted { OnOk result (length plan.now.place ≡ length mill.now.orders) }
 {
     if plan.place().len() != mill.orders().len() {
@@ -38,7 +39,8 @@ fn judge_places(mill: &Mill, plan: &Plan) -> Result<(), Illegal>
 // Tests each slab in turn.
 fn judge_slabs(mill: &Mill, plan: &Plan) -> Result<(), Illegal>
     requires { length plan.now.place ≡ length mill.now.orders }
-    ensures { AnswersFirst mill.now plan.now (flat_map slab_rules (range_with_len 0 (length plan.now.kinds))) result }
+    ensures { AnswersFirst mill.now plan.now
+        (flat_map slab_rules (range_with_len 0 (length plan.now.kinds))) result }
 {
     let orders = mill.orders().len();
     prove!(orders <= MOST_ORDERS as usize);
@@ -124,7 +126,8 @@ fn load_on(mill: &Mill, place: &[u16], k: u16) -> u32
 // Whether the orders on slab k have more different colours than the mill allows.
 fn has_many_colours(mill: &Mill, place: &[u16], k: u16) -> bool
     requires { length place.now ≡ length mill.now.orders }
-    ensures { result ≡ nat_lt mill.now.colour_limit (colours_of mill.now (places_of k 0 place.now)) }
+    ensures { result
+        ≡ nat_lt mill.now.colour_limit (colours_of mill.now (places_of k 0 place.now)) }
 {
     let orders = mill.orders();
     let limit = mill.colour_limit();
@@ -140,7 +143,8 @@ fn has_many_colours(mill: &Mill, place: &[u16], k: u16) -> bool
 // Whether an order on slab k, which is of this kind, is barred from it.
 fn has_barred_order(mill: &Mill, place: &[u16], k: u16, kind: Kind) -> bool
     requires { length place.now ≡ length mill.now.orders }
-    ensures { result ≡ has_barred mill.now (record { kind = kind; orders = places_of k 0 place.now }) }
+    ensures { result
+        ≡ has_barred mill.now (record { kind = kind; orders = places_of k 0 place.now }) }
 {
     match kind {
         Kind::New(_) => false,
@@ -151,7 +155,8 @@ fn has_barred_order(mill: &Mill, place: &[u16], k: u16, kind: Kind) -> bool
 // Whether an order on slab k is barred from this surplus slab.
 fn bars_an_order(mill: &Mill, place: &[u16], k: u16, slab: u16) -> bool
     requires { length place.now ≡ length mill.now.orders }
-    ensures { result ≡ list_any (λ o. is_barred mill.now o (Kind.Old slab)) (places_of k 0 place.now) }
+    ensures { result
+        ≡ list_any (λ o. is_barred mill.now o (Kind.Old slab)) (places_of k 0 place.now) }
 {
     let orders = mill.orders().len();
     prove!(orders <= MOST_ORDERS as usize);

@@ -56,7 +56,8 @@ impl Plan {
 
     /// The sums of a legal plan, or the first rule that the plan breaks: of its places, then of each slab in turn.
     pub fn judge(&self, mill: &Mill) -> Result<Sums, Illegal>
-        ensures legal { IfOk result (λ sums. IsLegal mill.now self.now × (sums ≡ sums_of mill.now self.now)) }
+        ensures legal { IfOk result
+            (λ sums. IsLegal mill.now self.now × (sums ≡ sums_of mill.now self.now)) }
         ensures first { IfErr result (λ rule. first_broken mill.now self.now ≡ Some rule) }
         ensures illegal { OnErr result (¬ IsLegal mill.now self.now) }
     {

@@ -28,7 +28,8 @@ impl Model for Prices {
 impl Prices {
     /// The prices of one unit of loss, of one new slab, of each order and of each surplus slab, each at most 2^62 in absolute value.
     pub fn new(lambda: i64, mu: i64, pi: Vec<i64>, sigma: Vec<i64>) -> Prices
-        requires { ArePrices (record { lambda = lambda; mu = mu; pi = pi.items; sigma = sigma.items }) }
+        requires { ArePrices
+            (record { lambda = lambda; mu = mu; pi = pi.items; sigma = sigma.items }) }
         ensures { result ≡ record { lambda = lambda; mu = mu; pi = pi.items; sigma = sigma.items } }
     {
         Prices {
