@@ -1,5 +1,5 @@
-//! Starts by large neighbourhoods: rounds that release the orders of two slabs and place them anew, after the plan of another
-//! starter.
+//! Starts by large neighbourhoods: rounds that release the orders of two slabs and place them anew, after the plan of
+//! another starter.
 //!
 //! Read `shelf` first (lists that are used again), `release` (what is kept, and what is placed
 //! anew), `ways` and `placing` (where an order goes), `sizes` (what a plan costs), `search` (a round), `lns`, and `laws`.

@@ -21,8 +21,8 @@ pub(crate) struct Placing {
 }
 
 impl Placing {
-    // For so many orders, with these lists, by the numbers of a seed. No more ways are there than slabs with orders, one new slab
-    // and the surplus slabs.
+    // For so many orders, with these lists, by the numbers of a seed. There are no more ways than slabs with orders, one
+    // new slab and the surplus slabs.
     pub(crate) fn new(
         alloc: Global,
         shelf: Shelf,
@@ -48,7 +48,9 @@ impl Placing {
         orders: &[u16],
         slabs: &mut Vec<Slab>,
     ) -> Result<bool, AllocError>
-        ensures { IfOk result (λ placed. all_placed mill.now limit orders.now slabs.old.items self.old.draws.last ≡ record { found = then_some placed slabs.new.items; last = self.new.draws.last }) }
+        ensures { IfOk result (λ placed.
+            all_placed mill.now limit orders.now slabs.old.items self.old.draws.last
+            ≡ record { found = then_some placed slabs.new.items; last = self.new.draws.last }) }
     {
         for order in orders {
             if !self.place(alloc, mill, limit, *order, slabs)? {
@@ -67,7 +69,9 @@ impl Placing {
         order: u16,
         slabs: &mut Vec<Slab>,
     ) -> Result<bool, AllocError>
-        ensures { IfOk result (λ placed. place_one mill.now limit order slabs.old.items self.old.draws.last ≡ record { found = then_some placed slabs.new.items; last = self.new.draws.last }) }
+        ensures { IfOk result (λ placed.
+            place_one mill.now limit order slabs.old.items self.old.draws.last
+            ≡ record { found = then_some placed slabs.new.items; last = self.new.draws.last }) }
     {
         list_ways(mill, limit, order, slabs, &mut self.ways)?;
         let count = self.ways.len();

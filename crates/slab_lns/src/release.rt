@@ -1,10 +1,10 @@
 //! What is kept of the slabs, and which orders are placed anew.
 
-ghost use Rattle.std.specs.Prelude.{◌≡◌, ◌<◌, ◌++◌, ◌∷◌, [], length, IfOk, OnOk};
-ghost use Rattle.std.specs.Prelude.{◌||◌};
+ghost use Rattle.std.specs.Prelude.{◌≡◌, ◌<◌, ◌||◌, [], length, IfOk, OnOk};
 ghost use Rattle.mill_model.specs.Mill.{IsInLimits};
 ghost use Rattle.mill_model.specs.Columns.{has};
-ghost use Rattle.slab_lns.specs.Neighbourhoods.{kept as kept_of, released as released_of, slab_at, opened as opened_slab, opened_kind as opened_kind_of, is_one_of as is_one_of_two};
+ghost use Rattle.slab_lns.specs.Neighbourhoods.{kept as kept_of, released as released_of, slab_at};
+ghost use Rattle.slab_lns.specs.Neighbourhoods.{opened as opened_slab, opened_kind as opened_kind_of, is_one_of as is_one_of_two};
 
 use crate::shelf::Shelf;
 use mill_model::{Kind, MOST_ORDERS, Mill};
@@ -82,7 +82,8 @@ pub(crate) fn release(
 fn has_one(slabs: &[Slab], pair: (usize, usize), order: u16) -> bool
     requires first { pair.0 < length slabs.now }
     requires second { pair.1 < length slabs.now }
-    ensures { result ≡ (has (slab_at slabs.now pair.0).orders order || has (slab_at slabs.now pair.1).orders order) }
+    ensures { result ≡
+        (has (slab_at slabs.now pair.0).orders order || has (slab_at slabs.now pair.1).orders order) }
 {
     slabs[pair.0].has(order) || slabs[pair.1].has(order)
 }

@@ -46,7 +46,8 @@ impl Search {
         seed: u32,
     ) -> Result<Search, AllocError>
         requires { IsStart mill.now limit plan.now }
-        ensures at { IfOk result (λ s. round_at mill.now s ≡ record { plan = plan.now; last = seed }) }
+        ensures at { IfOk result (λ s.
+            round_at mill.now s ≡ record { plan = plan.now; last = seed }) }
         ensures limit { IfOk result (λ s. s.limit ≡ limit) }
         ensures sound { IfOk result (IsSound mill.now) }
     {
@@ -70,7 +71,8 @@ impl Search {
     // So many rounds.
     pub(crate) fn run(&mut self, alloc: Global, mill: &Mill, rounds: u32) -> Result<(), AllocError>
         requires { IsSound mill.now self.old }
-        ensures at { OnOk result (round_at mill.now self.new ≡ after_rounds mill.now self.old.limit rounds (round_at mill.now self.old)) }
+        ensures at { OnOk result (round_at mill.now self.new
+            ≡ after_rounds mill.now self.old.limit rounds (round_at mill.now self.old)) }
         ensures limit { OnOk result (self.new.limit ≡ self.old.limit) }
         ensures sound { OnOk result (IsSound mill.now self.new) }
     {
@@ -83,7 +85,8 @@ impl Search {
     // The orders of two slabs that are drawn are placed anew.
     fn round(&mut self, alloc: Global, mill: &Mill) -> Result<(), AllocError>
         requires { IsSound mill.now self.old }
-        ensures at { OnOk result (round_at mill.now self.new ≡ round_after mill.now self.old.limit (round_at mill.now self.old)) }
+        ensures at { OnOk result (round_at mill.now self.new
+            ≡ round_after mill.now self.old.limit (round_at mill.now self.old)) }
         ensures limit { OnOk result (self.new.limit ≡ self.old.limit) }
         ensures sound { OnOk result (IsSound mill.now self.new) }
     {
@@ -108,7 +111,12 @@ impl Search {
     ) -> Result<bool, AllocError>
         requires first { pair.0 < length self.old.slabs.items }
         requires second { pair.1 < length self.old.slabs.items }
-        ensures placed { IfOk result (λ placed. place_all mill.now self.old.limit (released mill.now pair.0 pair.1 self.old.slabs.items) (kept mill.now pair.0 pair.1 self.old.slabs.items) self.old.placing.draws.last ≡ record { found = then_some placed self.new.made.items; last = self.new.placing.draws.last }) }
+        ensures placed { IfOk result (λ placed.
+            place_all mill.now self.old.limit
+            (released mill.now pair.0 pair.1 self.old.slabs.items)
+            (kept mill.now pair.0 pair.1 self.old.slabs.items)
+            self.old.placing.draws.last
+            ≡ record { found = then_some placed self.new.made.items; last = self.new.placing.draws.last }) }
         ensures slabs { OnOk result (self.new.slabs ≡ self.old.slabs) }
         ensures sums { OnOk result (self.new.sums ≡ self.old.sums) }
         ensures limit { OnOk result (self.new.limit ≡ self.old.limit) }
@@ -133,9 +141,12 @@ impl Search {
     fn take_if_no_worse(&mut self, mill: &Mill) -> Result<(), AllocError>
         requires sound { IsSound mill.now self.old }
         requires few { length self.old.made.items ≤ most_orders }
-        requires made { IsStart mill.now self.old.limit (plan_of_filled mill.now self.old.made.items) }
-        requires slabs { slabs_of (plan_of_filled mill.now self.old.made.items) ≡ closed_slabs mill.now self.old.made.items }
-        ensures plan { OnOk result (plan_at mill.now self.new ≡ no_worse_plan mill.now (plan_at mill.now self.old) (Some self.old.made.items)) }
+        requires made { IsStart mill.now self.old.limit
+            (plan_of_filled mill.now self.old.made.items) }
+        requires slabs { slabs_of (plan_of_filled mill.now self.old.made.items)
+            ≡ closed_slabs mill.now self.old.made.items }
+        ensures plan { OnOk result (plan_at mill.now self.new
+            ≡ no_worse_plan mill.now (plan_at mill.now self.old) (Some self.old.made.items)) }
         ensures last { OnOk result (self.new.placing.draws.last ≡ self.old.placing.draws.last) }
         ensures limit { OnOk result (self.new.limit ≡ self.old.limit) }
         ensures sound { OnOk result (IsSound mill.now self.new) }

@@ -16,7 +16,8 @@ pub(crate) enum Way {
     Open(Kind),
 }
 
-// Lists the ways: each open slab that takes it; a new one, where it may be and takes it; each free surplus slab that does.
+// Lists the ways: each open slab that takes it; a new one, where it may be and takes it; each free surplus slab that
+// does.
 pub(crate) fn list_ways(
     mill: &Mill,
     limit: Option<i64>,
@@ -36,7 +37,8 @@ pub(crate) fn list_ways(
 }
 
 fn add_open(mill: &Mill, order: u16, slabs: &[Slab], ways: &mut Vec<Way>) -> Result<(), AllocError>
-    ensures { OnOk result (ways.new.items ≡ ways.old.items ++ ways_on_open mill.now order slabs.now) }
+    ensures { OnOk result
+        (ways.new.items ≡ ways.old.items ++ ways_on_open mill.now order slabs.now) }
 {
     for k in 0..slabs.len() {
         if slabs[k].takes(mill, order) {
@@ -52,7 +54,8 @@ fn add_surplus(
     slabs: &[Slab],
     ways: &mut Vec<Way>,
 ) -> Result<(), AllocError>
-    ensures { OnOk result (ways.new.items ≡ ways.old.items ++ ways_to_open mill.now order (free_kinds mill.now slabs.now)) }
+    ensures { OnOk result (ways.new.items
+        ≡ ways.old.items ++ ways_to_open mill.now order (free_kinds mill.now slabs.now)) }
 {
     let count = mill.yard().len();
     prove!(count <= MOST_SLABS as usize);
