@@ -125,7 +125,7 @@ close_all m limit slabs limits f = record {
 
 -- ---- the plan
 
-first_place : (k first : ℕ) (xs : List ℕ) → 0 < length (places_of k first xs) → get_or (places_of k first xs) 0 0 ≡ first + position_or_len (λ x. eqb x k) xs
+pub first_place : (k first : ℕ) (xs : List ℕ) → 0 < length (places_of k first xs) → get_or (places_of k first xs) 0 0 ≡ first + position_or_len (λ x. eqb x k) xs
 first_place k first [] h = absurd (omega arith)
 first_place k first (x ∷ xs) h = elim (cases_Bool (eqb x k)) [
   | inl e ↦ rw e (omega arith)

@@ -1,7 +1,8 @@
-//! Slabs while they are filled, as starters fill them: which slab takes an order, which may be opened for it, and the plan
-//! that comes of them.
+//! Slabs while they are filled, as starters fill them: which slab takes an order, which may be opened for it, and the
+//! plan that comes of them.
 //!
-//! Read `colour_set` and `slab` first (a slab that is filled), then `opening` (what may be opened) and `closing` (the plan).
+//! Read `colour_set` and `slab` first (a slab that is filled), then `opening` (what may be opened) and `closing` (the
+//! plan).
 #![tactic(auto)]
 
 mod closing;

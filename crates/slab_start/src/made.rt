@@ -26,7 +26,8 @@ pub fn make_mill(alloc: Global, orders: u16, seed: u32) -> Result<Mill, AllocErr
 
 // The orders, two of each draw.
 fn made_orders(alloc: Global, count: u16, seed: u32) -> Result<Vec<Order>, AllocError>
-    ensures { IfOk result (λ orders. orders.items ≡ map (made_order_of count seed) (range_with_len 0 count)) }
+    ensures { IfOk result (λ orders.
+        orders.items ≡ map (made_order_of count seed) (range_with_len 0 count)) }
 {
     let mut orders = Vec::with_capacity(alloc, count as usize)?;
     let mut draws = Draws { last: seed };
@@ -44,7 +45,8 @@ fn made_orders(alloc: Global, count: u16, seed: u32) -> Result<Vec<Order>, Alloc
 fn made_order(count: u16, first: u16, i: u16) -> Order
     requires place { i < count }
     requires weight { first ≤ 44 }
-    ensures { (seed : ℕ) → first ≡ first_weight seed (i / 2 + 1) → result ≡ made_order_of count seed i }
+    ensures { (seed : ℕ) →
+        first ≡ first_weight seed (i / 2 + 1) → result ≡ made_order_of count seed i }
 {
     let weight = if i % 2 == 1 {
         44 - first
