@@ -12,7 +12,12 @@ use std::process::ExitCode;
 fn main(rt: HostRuntime) -> ExitCode {
     let alloc = rt.alloc();
     match start(&rt) {
-        Ok(begun) => ended(alloc, &begun.words, &mut RealDesk::new(rt), &mut Tally::new()),
+        Ok(begun) => ended(
+            alloc,
+            &begun.words,
+            &mut RealDesk::new(rt),
+            &mut Tally::new(),
+        ),
         Err(why) => end_without(why),
     }
 }
