@@ -19,6 +19,7 @@ pub fn write_cert<D: Desk>(mill: &Mill, what: Stored<'_>, desk: &mut D) -> Resul
     ensures prefix { OnErr result (Steps (D.told desk.old) (D.told desk.new) (WithPrefix AppendsAll (certificate_text (certificate_of Version.Two what.entry)))) }
     ensures cause { HasCause (D.faults desk.old) (D.faults desk.new) result }
     ensures stopped { D.stopped desk.new ≡ is_err result }
+    ensures named { D.named desk.new ≡ D.named desk.old }
 {
     write_version(mill, Version::Two, what, desk)
 }
@@ -36,6 +37,7 @@ pub fn write_version<D: Desk>(
     ensures prefix { OnErr result (Steps (D.told desk.old) (D.told desk.new) (WithPrefix AppendsAll (certificate_text (certificate_of version what.entry)))) }
     ensures cause { HasCause (D.faults desk.old) (D.faults desk.new) result }
     ensures stopped { D.stopped desk.new ≡ is_err result }
+    ensures named { D.named desk.new ≡ D.named desk.old }
 {
     let mut out = LineOut::<Written>::new();
     put_certificate(&mut out, desk, version, what);

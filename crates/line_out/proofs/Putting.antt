@@ -29,6 +29,7 @@ broken_more {sends} text more start now b = record {
   later = b.later;
   cause = b.cause;
   stopped = b.stopped;
+  named = b.named;
 }
 
 -- more waits
@@ -42,6 +43,7 @@ kept more waiting failed now = record {
       steps = u.steps;
       faults = u.faults;
       stopped = u.stopped;
+      named = u.named;
     };
     broken = λ e. broken_more before more start now (h.broken e);
   };
@@ -66,6 +68,7 @@ went_out text waiting start now next join u s = record {
   steps = steps_join start.told now.told next.told (join u.front waiting) u.steps s.all;
   faults = s.cause.kept ∙ u.faults;
   stopped = s.stopped ∙ ap (λ (b : Bool). is_stopped_after {E = Failed} b waiting (Ok (tt {0}))) u.stopped ∙ stopped_joined start.stopped u.front waiting;
+  named = s.named ∙ u.named;
 }
 
 prefix_joined : (sends : List ℕ → Told → Told → Type 0) (text front waiting : List ℕ) → Joins sends → text ≡ front ++ waiting
@@ -81,6 +84,7 @@ broke_off {sends} text waiting start now next error join u s = record {
   later = subst (λ (n : ℕ). n ≤ next.faults) u.faults s.cause.later;
   cause = subst (λ (n : ℕ). Rose n next.faults) u.faults s.cause.failed;
   stopped = s.stopped;
+  named = s.named ∙ u.named;
 }
 
 abbrev pub empty : Bool → Waiting
@@ -127,6 +131,7 @@ ends_well {sends} buffer old new p = record {
         prefix = tt;
         cause = record { later = omega (arith, u.faults); failed = tt; kept = u.faults };
         stopped = u.stopped ∙ ap (λ (t : List ℕ). is_stopped_after {E = Failed} start.stopped t (Ok (tt {0}))) same;
+        named = u.named;
       };
 }
 
@@ -140,6 +145,7 @@ ends_broken {sends} buffer old new error p = record {
         prefix = subst (λ (t : List ℕ). Steps start.told new.told (WithPrefix sends t)) (append-nil text) b.prefix;
         cause = record { later = b.later; failed = b.cause; kept = tt };
         stopped = b.stopped;
+        named = b.named;
       };
 }
 
@@ -152,6 +158,7 @@ starts {sends} now nothing = record {
     steps = steps_start (sends []) now.told nothing;
     faults = refl;
     stopped = refl;
+    named = refl;
   };
   broken = λ e. absurd (false≢true e);
 }

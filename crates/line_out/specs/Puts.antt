@@ -18,6 +18,7 @@ pub record IsUnderWay (sends : List ℕ → Told → Told → Type 0) (text wait
   pub steps : Steps start.told now.told (sends front)
   pub faults : now.faults ≡ start.faults
   pub stopped : now.stopped ≡ is_stopped_after {E = Failed} start.stopped front (Ok (tt {0}))
+  pub named : now.named ≡ start.named
 
 -- a prefix of the text went out before the outside failed
 pub record IsBroken (sends : List ℕ → Told → Told → Type 0) (text : List ℕ) (start now : Seen) : Type 0 where
@@ -25,6 +26,7 @@ pub record IsBroken (sends : List ℕ → Told → Told → Type 0) (text : List
   pub later : start.faults ≤ now.faults
   pub cause : Rose start.faults now.faults
   pub stopped : now.stopped ≡ true
+  pub named : now.named ≡ start.named
 
 -- this text was put since the start
 pub record HasPut (sends : List ℕ → Told → Told → Type 0) (text : List ℕ) (start : Seen) (buffer : Waiting) (now : Seen) : Type 0 where

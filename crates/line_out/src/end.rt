@@ -34,7 +34,7 @@ impl<D: Desk> End<D> for Said {
     ghost use Rattle.slab_desk.proofs.Pieces.{says_join};
     ghost use Rattle.line_out.specs.Ends.{says_nothing};
 
-    ghost seen = { λ desk. record { told = D.told desk; faults = D.faults desk; stopped = D.stopped desk } };
+    ghost seen = { λ desk. record { told = D.told desk; faults = D.faults desk; stopped = D.stopped desk; named = D.named desk } };
 
     ghost sends = { Says };
 
@@ -51,7 +51,7 @@ impl<D: Desk> End<D> for Written {
     ghost use Rattle.slab_desk.proofs.Pieces.{appends_join};
     ghost use Rattle.line_out.specs.Ends.{appends_nothing};
 
-    ghost seen = { λ desk. record { told = D.told desk; faults = D.faults desk; stopped = D.stopped desk } };
+    ghost seen = { λ desk. record { told = D.told desk; faults = D.faults desk; stopped = D.stopped desk; named = D.named desk } };
 
     ghost sends = { AppendsAll };
 

@@ -27,6 +27,7 @@ pub fn say_report<D: Desk>(
     ensures prefix { OnErr result (Steps (D.told desk.old) (D.told desk.new) (WithPrefix Says (report_text head.now opened bare word))) }
     ensures cause { HasCause (D.faults desk.old) (D.faults desk.new) result }
     ensures stopped { D.stopped desk.new ≡ is_err result }
+    ensures named { D.named desk.new ≡ D.named desk.old }
 {
     let mut out = LineOut::<Said>::new();
     put_report(&mut out, desk, head, opened, bare, word);

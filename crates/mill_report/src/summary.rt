@@ -30,6 +30,7 @@ pub fn say_summary<D: Desk>(
     ensures prefix { OnErr result (Steps (D.told desk.old) (D.told desk.new) (WithPrefix Says (summary_text mill.now head.now opened bare word))) }
     ensures cause { HasCause (D.faults desk.old) (D.faults desk.new) result }
     ensures stopped { D.stopped desk.new ≡ is_err result }
+    ensures named { D.named desk.new ≡ D.named desk.old }
 {
     let mut out = LineOut::<Said>::new();
     put_summary(&mut out, desk, mill, head, opened, bare, word);

@@ -8,12 +8,13 @@ use Rattle.slab_desk.specs.Desk.{Told, Files, Reads}
 use Rattle.slab_desk.specs.Memory.{state_of}
 use Rattle.slab_desk.specs.MemFile.{files_of, HasRoom, IsNamed, IsFirst, IsTarget, target_name}
 use Rattle.slab_desk.specs.Reserve.{Reserve}
-use Rattle.slab_desk.specs.State.{DeskState, after_answer, after_create, HasTarget, TargetIsFullFor}
+use Rattle.slab_desk.specs.State.{DeskState, asked_to_open, asked_to_create, after_answer, after_create, HasTarget, TargetIsFullFor}
 use Rattle.slab_desk.specs.declared.calls.Act.{Act}
 use Rattle.slab_desk.specs.declared.calls.Act.TheVariants.{OpenFile, Create, Write}
 use Rattle.slab_desk.specs.declared.calls.Calls.{Calls}
 use Rattle.slab_desk.specs.declared.mem_file.MemFile.{MemFile}
 use Rattle.slab_desk.specs.declared.mem_desk.MemDesk.TheInside.{Inside}
+use Rattle.slab_desk.specs.declared.noted.Noted.{Noted}
 use Rattle.slab_desk.proofs.ByName.{insert_at, insert_new, target_at, target_kept, target_last, found_at}
 
 pub opened_state : (d : Inside) (left : Reserve) (calls : Calls) (bytes : List ℕ) → left.bytes ≡ bytes → calls ≡ with_call OpenFile d.calls
@@ -43,6 +44,13 @@ or_found false o bytes e = ap (λ (p : Option (List ℕ)). is_none p) (sym e)
 or_none : (b : Bool) (o : Option (List ℕ)) → o ≡ None → true ≡ b || is_none o
 or_none true o e = refl
 or_none false o e = ap (λ (p : Option (List ℕ)). is_none p) (sym e)
+
+-- the desk was given this name
+pub noted_opened : (d : Inside) (opened : Noted) (name : List ℕ) → opened.names ≡ d.opened.names ++ name ∷ [] → state_of (record d { opened = opened }) ≡ asked_to_open name (state_of d)
+noted_opened d opened name is = ap (λ (names : List (List ℕ)). record (state_of d) { named = record { opened = names; created = d.created.names } }) is
+
+pub noted_created : (d : Inside) (created : Noted) (name : List ℕ) → created.names ≡ d.created.names ++ name ∷ [] → state_of (record d { created = created }) ≡ asked_to_create name (state_of d)
+noted_created d created name is = ap (λ (names : List (List ℕ)). record (state_of d) { named = record { opened = d.opened.names; created = names } }) is
 
 -- the file at a place was made empty, and is the target
 pub emptied_state : (d : Inside) (files : Vec MemFile Global) (name : List ℕ) (i : ℕ) (file : MemFile) (calls : Calls)

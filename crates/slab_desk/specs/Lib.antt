@@ -1,4 +1,5 @@
 pub mod Calls
+pub mod Names
 pub mod Causes
 pub mod Desk
 pub mod MemFile

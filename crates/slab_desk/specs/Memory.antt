@@ -15,6 +15,7 @@ state_of d = record {
   calls = d.calls;
   faults = d.faults;
   stopped = d.stopped;
+  named = record { opened = d.opened.names; created = d.created.names };
 }
 
 -- memory was taken for each file, for one more, for what is left and for what is said

@@ -3,6 +3,7 @@ use Rattle.std.specs.Prelude.{ℕ, false, List, [], map, None, String, Vec}
 use Rattle.std.specs.String.{string_bytes}
 use Rattle.std.specs.FinMap.{from_entries}
 use Rattle.std.specs.declared.alloc.Global.{Global}
+use Rattle.slab_desk.specs.Names.{no_names}
 use Rattle.slab_desk.specs.State.{DeskState}
 use Rattle.slab_desk.specs.declared.calls.Act.{Act}
 
@@ -27,4 +28,5 @@ first_state files piece failing room = record {
   calls = record { opens = 0; reads = 0; creates = 0; writes = 0; says = 0 };
   faults = 0;
   stopped = false;
+  named = no_names;
 }

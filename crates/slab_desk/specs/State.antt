@@ -4,6 +4,7 @@ use Rattle.std.specs.FinMap.{get, insert}
 use Rattle.slab_counter.specs.Counter.{next_count}
 use Rattle.slab_desk.specs.Calls.{count_of, with_call}
 use Rattle.slab_desk.specs.Desk.{Told, HasFile}
+use Rattle.slab_desk.specs.Names.{Names, with_opened, with_created}
 use Rattle.slab_desk.specs.declared.calls.Act.{Act}
 use Rattle.slab_desk.specs.declared.calls.Act.TheVariants.{OpenFile, Read, Create, Write, Say}
 use Rattle.slab_desk.specs.declared.calls.Calls.{Calls}
@@ -22,10 +23,18 @@ pub record DeskState : Type 0 where
   pub faults : ℕ
   -- the last call failed
   pub stopped : Bool
+  pub named : Names
 
 -- the next call of this kind is in the table of those that fail
 abbrev pub IsToFail : Act → DeskState → Type 0
 IsToFail act desk = Contains desk.failing (act, next_count (count_of act desk.calls))
+
+-- the desk that was given this name
+abbrev pub asked_to_open : List ℕ → DeskState → DeskState
+asked_to_open name desk = record desk { named = with_opened name desk.named }
+
+abbrev pub asked_to_create : List ℕ → DeskState → DeskState
+asked_to_create name desk = record desk { named = with_created name desk.named }
 
 -- the desk after a call that failed
 abbrev pub after_fault : Act → DeskState → DeskState
@@ -82,3 +91,4 @@ after_say bytes desk = after_answer Say (record desk.told { said = desk.told.sai
 pub record FaultState : Type 0 where
   pub faults : ℕ
   pub stopped : Bool
+  pub named : Names

@@ -8,11 +8,13 @@ ghost use Rattle.slab_desk.specs.Causes.{HasCause};
 ghost use Rattle.slab_desk.specs.Desk.{Answers, Opens, Reads, Creates, Appends, Says, HasFile};
 ghost use Rattle.slab_desk.specs.MemFile.{entries, HasRoom};
 ghost use Rattle.slab_desk.specs.Start.{first_state, listed, names};
-ghost use Rattle.slab_desk.specs.State.{IsToFail, CannotMake, IsFullFor, TargetIsFullFor, moved, after_fault, AfterOpen, after_read, after_create, AfterWrite, after_say};
+ghost use Rattle.slab_desk.specs.Names.{with_opened, with_created};
+ghost use Rattle.slab_desk.specs.State.{IsToFail, CannotMake, IsFullFor, TargetIsFullFor, moved, after_fault, asked_to_open, asked_to_create, AfterOpen, after_read, after_create, AfterWrite, after_say};
 
 use crate::calls::{Act, Calls, fails};
 use crate::desk::{Desk, Failed, fault};
 use crate::mem_file::{MemFile, position, target_place};
+use crate::noted::Noted;
 use crate::reserved::Reserved;
 use std::alloc::{AllocError, Global};
 use std::marker::Model;
@@ -32,6 +34,8 @@ pub struct MemDesk {
     calls: Calls,
     faults: u64,
     stopped: bool,
+    opened: Noted,
+    created: Noted,
 }
 
 impl Model for MemDesk {
@@ -94,6 +98,8 @@ impl MemDesk {
             },
             faults: 0,
             stopped: false,
+            opened: Noted::none(),
+            created: Noted::none(),
         })
     }
 
@@ -163,16 +169,20 @@ impl Desk for MemDesk {
 
     ghost stopped = { λ desk. desk.stopped };
 
+    ghost named = { λ desk. desk.named };
+
     fn open_file(&mut self, name: &str) -> Result<(), Failed>
         ensures opens { Answers result (Some self.old.told) (Some self.new.told) (λ _. Opens name.now) }
         ensures cause { HasCause self.old.faults self.new.faults result }
         ensures stopped { self.new.stopped ≡ is_err result }
+        ensures named { self.new.named ≡ with_opened name.now self.old.named }
 
         ensures exact { IsErr result ↔ (IsToFail Act.OpenFile self.old ⊎ (get self.old.told.files name.now ≡ None)) }
-        ensures ok { OnOk result (AfterOpen name.now self.old self.new) }
-        ensures err { OnErr result (self.new ≡ after_fault Act.OpenFile self.old) }
+        ensures ok { OnOk result (AfterOpen name.now (asked_to_open name.now self.old) self.new) }
+        ensures err { OnErr result (self.new ≡ after_fault Act.OpenFile (asked_to_open name.now self.old)) }
     {
         self.stopped = false;
+        self.opened = self.opened.and(name);
         let number = self.calls.count(Act::OpenFile);
         if !fails(&self.failing, Act::OpenFile, number) {
             if let Some(place) = position(&self.files, name) {
@@ -190,6 +200,7 @@ impl Desk for MemDesk {
         ensures reads { Answers result (Some self.old.told) (Some self.new.told) (λ k. Reads k buf.new) }
         ensures cause { HasCause self.old.faults self.new.faults result }
         ensures stopped { self.new.stopped ≡ is_err result }
+        ensures named { self.new.named ≡ self.old.named }
 
         ensures exact { IsErr result ↔ IsToFail Act.Read self.old }
         ensures count { IfOk result (λ k. k ≡ moved self.old (length self.old.told.left) (length buf.old)) }
@@ -214,12 +225,14 @@ impl Desk for MemDesk {
         ensures creates { Answers result (Some self.old.told) (Some self.new.told) (λ _. Creates name.now) }
         ensures cause { HasCause self.old.faults self.new.faults result }
         ensures stopped { self.new.stopped ≡ is_err result }
+        ensures named { self.new.named ≡ with_created name.now self.old.named }
 
         ensures exact { IsErr result ↔ (IsToFail Act.Create self.old ⊎ CannotMake name.now self.old) }
-        ensures ok { OnOk result (self.new ≡ after_create name.now self.old) }
-        ensures err { OnErr result (self.new ≡ after_fault Act.Create self.old) }
+        ensures ok { OnOk result (self.new ≡ after_create name.now (asked_to_create name.now self.old)) }
+        ensures err { OnErr result (self.new ≡ after_fault Act.Create (asked_to_create name.now self.old)) }
     {
         self.stopped = false;
+        self.created = self.created.and(name);
         let number = self.calls.count(Act::Create);
         if !fails(&self.failing, Act::Create, number) {
             if let Some(place) = position(&self.files, name) {
@@ -240,11 +253,13 @@ impl Desk for MemDesk {
     }
 
     fn write(&mut self, bytes: &[u8]) -> Result<usize, Failed>
+        requires { 0 < length bytes.now }
         ensures bound { IfOk result (λ k. k ≤ length bytes.now) }
-        ensures some { IfOk result (λ k. 0 < length bytes.now → 0 < k) }
+        ensures some { IfOk result (λ k. 0 < k) }
         ensures writes { Answers result (Some self.old.told) (Some self.new.told) (λ k. Appends (take k bytes.now)) }
         ensures cause { HasCause self.old.faults self.new.faults result }
         ensures stopped { self.new.stopped ≡ is_err result }
+        ensures named { self.new.named ≡ self.old.named }
 
         ensures exact { IsErr result ↔ (IsToFail Act.Write self.old ⊎ (self.old.told.target ≡ None) ⊎ TargetIsFullFor bytes.now self.old) }
         ensures ok { IfOk result (λ k. AfterWrite bytes.now k self.old self.new) }
@@ -264,11 +279,13 @@ impl Desk for MemDesk {
     }
 
     fn say(&mut self, bytes: &[u8]) -> Result<usize, Failed>
+        requires { 0 < length bytes.now }
         ensures bound { IfOk result (λ k. k ≤ length bytes.now) }
-        ensures some { IfOk result (λ k. 0 < length bytes.now → 0 < k) }
+        ensures some { IfOk result (λ k. 0 < k) }
         ensures says { Answers result (Some self.old.told) (Some self.new.told) (λ k. Says (take k bytes.now)) }
         ensures cause { HasCause self.old.faults self.new.faults result }
         ensures stopped { self.new.stopped ≡ is_err result }
+        ensures named { self.new.named ≡ self.old.named }
 
         ensures exact { IsErr result ↔ (IsToFail Act.Say self.old ⊎ IsFullFor bytes.now self.old.told.said self.old) }
         ensures count { IfOk result (λ k. k ≡ moved self.old (self.old.room - length self.old.told.said) (length bytes.now)) }

@@ -1,22 +1,25 @@
 //! Files and standard output as the system has them.
 ghost use Rattle.std.specs.Prelude.{◌≡◌, None, false};
+ghost use Rattle.slab_desk.specs.Names.{no_names};
 
 use crate::desk::fault;
-use crate::{Desk, Failed};
+use crate::{Desk, Failed, Noted};
 use std::fs;
 use std::io::{self, Read, Write};
 use std::marker::Model;
 use std::rt::Files;
 
-/// A thin adapter over the files and the standard output of a runtime. It tells nothing but its faults
-/// and whether the last call failed.
+/// A thin adapter over the files and the standard output of a runtime. It tells nothing but its faults, whether the last call
+/// failed, and which names it was given.
 #[derive(Drop)]
 pub struct RealDesk<R: Files + Print + Drop> {
     rt: R,
-    opened: Option<R::File>,
+    source: Option<R::File>,
     target: Option<R::File>,
     faults: u64,
     stopped: bool,
+    opened: Noted,
+    created: Noted,
 }
 
 impl<R: Files + Print + Drop> Model for RealDesk<R> {
@@ -24,20 +27,22 @@ impl<R: Files + Print + Drop> Model for RealDesk<R> {
 
     ghost Value = { FaultState };
 
-    ghost view = { λ desk. record { faults = desk.faults; stopped = desk.stopped } };
+    ghost view = { λ desk. record { faults = desk.faults; stopped = desk.stopped; named = record { opened = desk.opened.names; created = desk.created.names } } };
 }
 
 impl<R: Files + Print + Drop> RealDesk<R> {
     /// A desk with no file opened or created, and no fault yet.
     pub fn new(rt: R) -> Self
-        ensures { result ≡ record { faults = 0; stopped = false } }
+        ensures { result ≡ record { faults = 0; stopped = false; named = no_names } }
     {
         RealDesk {
             rt,
-            opened: None,
+            source: None,
             target: None,
             faults: 0,
             stopped: false,
+            opened: Noted::none(),
+            created: Noted::none(),
         }
     }
 }
@@ -49,11 +54,14 @@ impl<R: Files + Print + Drop> Desk for RealDesk<R> {
 
     ghost stopped = { λ desk. desk.stopped };
 
+    ghost named = { λ desk. desk.named };
+
     fn open_file(&mut self, name: &str) -> Result<(), Failed> {
         self.stopped = false;
+        self.opened = self.opened.and(name);
         match fs::open(&self.rt, name) {
             Ok(file) => {
-                self.opened = Some(file);
+                self.source = Some(file);
                 Ok(())
             }
             Err(_) => Err(fault(&mut self.faults, &mut self.stopped)),
@@ -62,7 +70,7 @@ impl<R: Files + Print + Drop> Desk for RealDesk<R> {
 
     fn read(&mut self, buf: &mut [u8]) -> Result<usize, Failed> {
         self.stopped = false;
-        let Some(file) = &mut self.opened else {
+        let Some(file) = &mut self.source else {
             return Ok(0);
         };
         match file.read(buf) {
@@ -73,6 +81,7 @@ impl<R: Files + Print + Drop> Desk for RealDesk<R> {
 
     fn create_file(&mut self, name: &str) -> Result<(), Failed> {
         self.stopped = false;
+        self.created = self.created.and(name);
         match fs::create(&self.rt, name) {
             Ok(file) => {
                 self.target = Some(file);
@@ -86,7 +95,7 @@ impl<R: Files + Print + Drop> Desk for RealDesk<R> {
         self.stopped = false;
         if let Some(file) = &mut self.target {
             match file.write(bytes) {
-                Ok(count) if count > 0 || bytes.is_empty() => return Ok(count),
+                Ok(count) if count > 0 => return Ok(count),
                 _ => {}
             }
         }
@@ -97,7 +106,7 @@ impl<R: Files + Print + Drop> Desk for RealDesk<R> {
         self.stopped = false;
         let mut out = io::writer(&self.rt);
         match out.write(bytes) {
-            Ok(count) if count > 0 || bytes.is_empty() => match out.flush() {
+            Ok(count) if count > 0 => match out.flush() {
                 Ok(()) => return Ok(count),
                 Err(_) => {}
             },

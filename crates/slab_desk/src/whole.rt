@@ -2,6 +2,7 @@
 ghost use Rattle.std.specs.Prelude.{◌≡◌, ◌≤◌, ◌+◌, false, [], length, IfOk, OnOk, OnErr, IsErrOf};
 ghost use Rattle.slab_counter.specs.Counter.{Rose};
 ghost use Rattle.slab_desk.specs.Causes.{HasCause, is_fault, is_stopped_after};
+ghost use Rattle.slab_desk.specs.Names.{with_opened};
 ghost use Rattle.slab_desk.specs.Desk.{Steps, WhereTold, HasFile, HasLongFile, ChangesLeft, ReadsAtMost, Says, AppendsAll, WithPrefix};
 
 use crate::{Desk, Failed};
@@ -67,6 +68,7 @@ pub fn read_all<D: Desk>(
     ensures read { Steps (D.told desk.old) (D.told desk.new) (ReadsAtMost name.now (limit + 1)) }
     ensures left { Steps (D.told desk.old) (D.told desk.new) ChangesLeft }
     ensures later { D.faults desk.old ≤ D.faults desk.new }
+    ensures named { D.named desk.new ≡ with_opened name.now (D.named desk.old) }
 {
     desk.open_file(name)?;
     let mut bytes = Vec::new(alloc);
@@ -91,6 +93,7 @@ pub fn say_all<D: Desk>(desk: &mut D, bytes: &[u8]) -> Result<(), Failed>
     ensures prefix { OnErr result (Steps (D.told desk.old) (D.told desk.new) (WithPrefix Says bytes.now)) }
     ensures cause { HasCause (D.faults desk.old) (D.faults desk.new) result }
     ensures stopped { D.stopped desk.new ≡ is_stopped_after (D.stopped desk.old) bytes.now result }
+    ensures named { D.named desk.new ≡ D.named desk.old }
 {
     let mut rest = bytes;
     while !rest.is_empty() {
@@ -107,6 +110,7 @@ pub fn write_all<D: Desk>(desk: &mut D, bytes: &[u8]) -> Result<(), Failed>
     ensures prefix { OnErr result (Steps (D.told desk.old) (D.told desk.new) (WithPrefix AppendsAll bytes.now)) }
     ensures cause { HasCause (D.faults desk.old) (D.faults desk.new) result }
     ensures stopped { D.stopped desk.new ≡ is_stopped_after (D.stopped desk.old) bytes.now result }
+    ensures named { D.named desk.new ≡ D.named desk.old }
 {
     let mut rest = bytes;
     while !rest.is_empty() {

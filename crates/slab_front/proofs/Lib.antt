@@ -6,3 +6,4 @@ pub mod Searching
 pub mod Pieces
 pub mod Cuts
 pub mod Failing
+pub mod Opening

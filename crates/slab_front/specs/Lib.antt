@@ -7,3 +7,4 @@ pub mod Outcomes
 pub mod Owed
 pub mod Endings
 pub mod Laws
+pub mod Opens

@@ -1,6 +1,7 @@
 // A cut, read in pieces until a line is bad.
 ghost use Rattle.std.specs.Prelude.{◌≡◌, IfOk};
 ghost use Rattle.slab_desk.specs.Desk.{WhereTold};
+ghost use Rattle.slab_desk.specs.Names.{with_opened};
 ghost use Rattle.slab_front.specs.Owed.{Nothing};
 ghost use Rattle.slab_front.specs.Endings.{HasOnlyRead, HasGoodHead, IsReadCut, IsStop, OnCutFile, is_fault};
 
@@ -26,6 +27,7 @@ pub fn read_cut<D: Desk>(
     ensures reads { HasOnlyRead (IsStop Nothing)
         (D.told desk.old) (D.told desk.new) (D.faults desk.old) (D.faults desk.new) result }
     ensures stopped { D.stopped desk.new ≡ is_fault result }
+    ensures named { D.named desk.new ≡ with_opened name.now (D.named desk.old) }
 {
     // Its readers tell that a mill is within its limits.
     let _within_limits = mill.colours();

@@ -5,6 +5,7 @@ ghost use Rattle.run_words.specs.Words.{named_mill};
 ghost use Rattle.slab_front.specs.Outcomes.{saying};
 ghost use Rattle.slab_front.specs.Owed.{OwesVerdict, OwesOfPlan, OwesOfMill};
 ghost use Rattle.slab_front.specs.Endings.{HasOnlyRead, is_fault, IsEnding, IsStop};
+ghost use Rattle.slab_front.specs.Opens.{HasOpened, OpensOneMore};
 
 use crate::ending::{Ending, Stop};
 use crate::files::{plan_in, read_mill};
@@ -29,6 +30,8 @@ pub fn judge<D: Desk>(
     ensures reads { HasOnlyRead (IsStop (λ files. OwesOfMill (OwesOfPlan files plan.now) files (named_mill orders.entry yard.entry colours)))
         (D.told desk.old) (D.told desk.new) (D.faults desk.old) (D.faults desk.new) result }
     ensures stopped { D.stopped desk.new ≡ is_fault result }
+    ensures named { HasOpened (OpensOneMore (named_mill orders.entry yard.entry colours) plan.now (D.told desk.old))
+        (D.named desk.old) (D.named desk.new) }
 {
     let mill = read_mill(alloc, desk, orders, yard, colours)?;
     let plan = plan_in(alloc, desk, &mill, plan)?;

@@ -11,6 +11,7 @@ ghost use Rattle.slab_front.specs.Words.{job_of};
 ghost use Rattle.slab_front.specs.Outcomes.{Ran};
 ghost use Rattle.slab_front.specs.Owed.{Owes, OwesOfCommand, Exactly, MayEnd, LeavesUnread};
 ghost use Rattle.slab_front.specs.Endings.{HasOnlyRead, IsAnswer, IsStop, IsStoppedBy, MayAnswer};
+ghost use Rattle.slab_front.specs.Opens.{AsksInOrder, HasOpened, IsOpenedFor};
 
 use crate::ending::{Answer, Stop};
 use crate::giving::{give, say};
@@ -53,6 +54,9 @@ pub fn run<D: Desk>(alloc: Global, words: &[String], desk: &mut D, tally: &mut T
     ensures kept { result ≢ 5 → D.faults desk.new ≡ D.faults desk.old }
     ensures rose { D.faults desk.old < last_count → ((result ≡ 5) ↔ (D.faults desk.old < D.faults desk.new)) }
     ensures counters { AreNoLess tally.old tally.new }
+
+    // The order of a run: what reads, writes and says may fail at is the outside's.
+    ensures opens { AsksInOrder (job_of (map string_bytes words.now)) (D.told desk.old) result (D.named desk.old) (D.named desk.new) }
 {
     let job = match read_words(words) {
         Ok(job) => job,
@@ -72,6 +76,7 @@ fn refuse<D: Desk>(alloc: Global, usage: UsageAt, desk: &mut D) -> u8
     ensures status { (result ≡ 1) ⊎ ((result ≡ 5) ⊎ (result ≡ 6)) }
     ensures unread { Steps (D.told desk.old) (D.told desk.new) (λ old new. new.left ≡ old.left) }
     ensures ends { EndsByFaults (D.faults desk.old) (D.faults desk.new) (D.stopped desk.new) result }
+    ensures named { D.named desk.new ≡ D.named desk.old }
 {
     match usage_text(alloc, usage) {
         Ok(text) => say(desk, 1, text.as_str()),
@@ -93,6 +98,7 @@ fn answer<'a, D: Desk>(
         (D.told desk.old) (D.told desk.new) (D.faults desk.old) (D.faults desk.new) result }
     ensures stopped { IsStoppedBy result (D.stopped desk.new) }
     ensures unread { Steps (D.told desk.old) (D.told desk.new) (LeavesUnread (Ok (command_of job.entry))) }
+    ensures named { HasOpened (IsOpenedFor (command_of job.entry) (D.told desk.old) result) (D.named desk.old) (D.named desk.new) }
     ensures counters { AreNoLess tally.old tally.new }
 {
     match job {

@@ -5,6 +5,8 @@ ghost use Rattle.run_words.specs.Words.{named_mill};
 ghost use Rattle.slab_front.specs.Words.{most_limit};
 ghost use Rattle.slab_front.specs.Owed.{IsSearchStatus, OwesOfMill, OwesSearch, OwesResumed, OwesMade, stored_as, Nothing};
 ghost use Rattle.slab_front.specs.Endings.{HasOnlyRead, IsStoppedBy, is_fault, IsAnswer, IsStop, status_for, outcome_for};
+ghost use Rattle.slab_front.specs.Words.Command.{Solves, Resumes, Makes};
+ghost use Rattle.slab_front.specs.Opens.{HasOpened, IsOpenedFor, MayStore};
 
 use crate::cut::read_cut;
 use crate::ending::{Answer, Ending, Stop};
@@ -38,6 +40,8 @@ pub fn solve<'a, D: Desk>(
     ensures reads { HasOnlyRead (IsStop (λ files. OwesOfMill Nothing files (named_mill orders.entry yard.entry colours)))
         (D.told desk.old) (D.told desk.new) (D.faults desk.old) (D.faults desk.new) result }
     ensures stopped { D.stopped desk.new ≡ is_fault result }
+    ensures named { HasOpened (IsOpenedFor (Solves (named_mill orders.entry yard.entry colours) cert.now limit) (D.told desk.old) result)
+        (D.named desk.old) (D.named desk.new) }
     ensures counters { AreNoLess tally.old tally.new }
 {
     let mill = read_mill(alloc, desk, orders, yard, colours)?;
@@ -65,6 +69,8 @@ pub fn resume<'a, D: Desk>(
     ensures reads { HasOnlyRead (IsStop (λ files. OwesOfMill Nothing files (named_mill orders.entry yard.entry colours)))
         (D.told desk.old) (D.told desk.new) (D.faults desk.old) (D.faults desk.new) result }
     ensures stopped { D.stopped desk.new ≡ is_fault result }
+    ensures named { HasOpened (IsOpenedFor (Resumes (named_mill orders.entry yard.entry colours) cut.now cert.now limit) (D.told desk.old) result)
+        (D.named desk.old) (D.named desk.new) }
     ensures counters { AreNoLess tally.old tally.new }
 {
     let mill = read_mill(alloc, desk, orders, yard, colours)?;
@@ -92,6 +98,7 @@ pub fn make(
     ensures owed { IfOk result (λ answer. OwesMade orders seed tally.old tally.new (status_for answer) (outcome_for answer)) }
     ensures status { IfOk result (λ answer. status_for answer ≡ 0) }
     ensures calls { IfOk result (λ answer. (failed : Bool) → IsStoppedBy (Ok answer) failed) }
+    ensures stores { IfOk result (λ answer. MayStore (Makes orders seed) (Ok answer) []) }
     ensures counters { AreNoLess tally.old tally.new }
 {
     let mill = make_mill(alloc, orders, seed)?;

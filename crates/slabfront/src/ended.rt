@@ -8,6 +8,7 @@ ghost use Rattle.slab_relax.specs.Tallies.{AreNoLess};
 ghost use Rattle.slab_front.specs.Words.{job_of};
 ghost use Rattle.slab_front.specs.Outcomes.{Ran};
 ghost use Rattle.slab_front.specs.Owed.{Owes, MayEnd, LeavesUnread};
+ghost use Rattle.slab_front.specs.Opens.{AsksInOrder};
 
 use slab_desk::Desk;
 use slab_front::run;
@@ -33,6 +34,8 @@ pub(crate) fn ended<D: Desk>(
     ensures kept { exit_status result ≢ 5 → D.faults desk.new ≡ D.faults desk.old }
     ensures rose { D.faults desk.old < last_count → ((exit_status result ≡ 5) ↔ (D.faults desk.old < D.faults desk.new)) }
     ensures counters { AreNoLess tally.old tally.new }
+    ensures opens { AsksInOrder (job_of (map string_bytes words.now)) (D.told desk.old) (exit_status result)
+        (D.named desk.old) (D.named desk.new) }
 {
     ExitCode::from(run(alloc, words, desk, tally))
 }

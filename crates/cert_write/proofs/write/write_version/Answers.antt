@@ -13,7 +13,7 @@ use Rattle.cert_write.proofs.write.write_version.Goals as goal
 
 pub returns : goal.returns
 returns g c =
-    let seen : g.row.D.Denot → Seen = λ desk. record { told = g.D.Desk.told desk; faults = g.D.Desk.faults desk; stopped = g.D.Desk.stopped desk } in
+    let seen : g.row.D.Denot → Seen = λ desk. record { told = g.D.Desk.told desk; faults = g.D.Desk.faults desk; stopped = g.D.Desk.stopped desk; named = g.D.Desk.named desk } in
     let certificate : Certificate = certificate_of c.args.version c.args.what in
     let first = seen c.args.desk.now in
     let second = seen c.put_certificate.new.desk in
@@ -27,4 +27,5 @@ returns g c =
       prefix = sent.prefix;
       cause = sent.cause;
       stopped = sent.stopped ∙ stopped_after_certificate first.stopped certificate c.finish.result;
+      named = sent.named;
     }

@@ -11,7 +11,7 @@ use Rattle.mill_report.proofs.summary.say_summary.Goals as goal
 
 pub returns : goal.returns
 returns g c =
-    let seen : g.row.D.Denot → Seen = λ desk. record { told = g.D.Desk.told desk; faults = g.D.Desk.faults desk; stopped = g.D.Desk.stopped desk } in
+    let seen : g.row.D.Denot → Seen = λ desk. record { told = g.D.Desk.told desk; faults = g.D.Desk.faults desk; stopped = g.D.Desk.stopped desk; named = g.D.Desk.named desk } in
     let text : List ℕ = summary_text c.args.mill.now c.args.head.now c.args.opened c.args.bare c.args.word in
     let first = seen c.args.desk.now in
     let second = seen c.put_summary.new.desk in
@@ -25,4 +25,5 @@ returns g c =
       prefix = sent.prefix;
       cause = sent.cause;
       stopped = sent.stopped ∙ stopped_after_summary first.stopped c.args.mill.now c.args.head.now c.args.opened c.args.bare c.args.word c.finish.result;
+      named = sent.named;
     }

@@ -12,8 +12,9 @@ loop-rest-preserved g c =
     let some : 0 < length (take c.in_ok-count.count c.loop-rest.rest.now) = grind (arith, common_steps, length-take) in
     record {
       sent = rw take_rest (sent_more {step = AppendsAll} c.in_ok-count.count _ _ _ _ _ appends_join c.loop-rest.invariant.sent (steps_weaker _ _ (λ x y. appends_some _ x y some) c.in_ok-count.ensures.writes));
+      named = c.in_ok-count.ensures.named ∙ c.loop-rest.invariant.named;
       kept = c.in_ok-count.ensures.cause.kept ∙ c.loop-rest.invariant.kept;
-      stopped = rw take_rest (stopped_more c.in_ok-count.count _ _ _ _ _ (c.in_ok-count.ensures.some left) c.in_ok-count.ensures.bound c.in_ok-count.ensures.stopped c.loop-rest.invariant.stopped);
+      stopped = rw take_rest (stopped_more c.in_ok-count.count _ _ _ _ _ c.in_ok-count.ensures.some c.in_ok-count.ensures.bound c.in_ok-count.ensures.stopped c.loop-rest.invariant.stopped);
     }
 
 pub returns-clause-cause : goal.returns-clause-cause

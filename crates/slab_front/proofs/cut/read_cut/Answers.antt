@@ -16,6 +16,7 @@ pieces-init g c = record {
   mill = c.in_ok-reader.ensures.mill;
   within = c.colours-within_limits.ensures.limits;
   kept = c.in_ok-open_file.ensures.cause.kept;
+  named = c.in_ok-open_file.ensures.named;
   stopped = c.in_ok-open_file.ensures.stopped;
 }
 
@@ -25,6 +26,7 @@ pieces-preserved g c = record {
   mill = c.in_ok-reader-2.ensures.mill ∙ c.pieces.invariant.mill;
   within = c.pieces.invariant.within;
   kept = c.in_ok-count.ensures.cause.kept ∙ c.pieces.invariant.kept;
+  named = c.in_ok-count.ensures.named ∙ c.pieces.invariant.named;
   stopped = c.in_ok-count.ensures.stopped;
 }
 

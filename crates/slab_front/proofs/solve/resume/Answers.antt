@@ -1,4 +1,4 @@
-use Rattle.std.proofs.Common.{List, ℕ, subst}
+use Rattle.std.proofs.Common.{List, [], ◌∷◌, ◌++◌, ℕ, refl, ap, subst}
 use Rattle.std.specs.String.{string_bytes}
 use Rattle.cert_check.specs.declared.verdict.CutRead.{CutRead}
 use Rattle.cert_check.specs.declared.verdict.CutRead.TheVariants as cuts
@@ -12,6 +12,7 @@ use Rattle.slab_front.specs.Outcomes.{saying}
 use Rattle.slab_front.specs.Owed.{OwesOfMill, OwesResumed, stored_as}
 use Rattle.slab_front.specs.Endings.{IsReadCut, OnCutFile}
 use Rattle.slab_front.proofs.Owing.{owes_mill, owes_points, owes_no_cut}
+use Rattle.slab_front.proofs.Opening.{opened_then, opens_one_more}
 use Rattle.slab_front.proofs.solve.resume.Goals as goal
 
 pub returns-in-No-clause-answer : goal.returns-in-No-clause-answer
@@ -46,3 +47,11 @@ returns-clause-answer g c =
     c.in_ok-mill.ensures.mill
     (told_before (OnCutFile P name) (g.D.Desk.told c.args.desk.now) (g.D.Desk.told c.read_mill.new.desk) c.in_ok-mill.ensures.reads.left
     (subst (λ (r : CutRead). WhereTold (g.D.Desk.told c.read_mill.new.desk) (λ t. OnCutFile (IsReadCut mill r) name t.files)) c.in-Head.is c.in_ok-read.ensures.read))
+
+pub returns-clause-named : goal.returns-clause-named
+returns-clause-named g c =
+    let words : MillWords = named_mill c.args.orders c.args.yard c.args.colours in
+    opened_then c.args.cut.now _ _ _ c.in_ok-mill.ensures.named c.in_ok-read.ensures.named (λ opened is. record {
+      order = opens_one_more words c.args.cut.now c.in_ok-mill.mill (g.D.Desk.told c.args.desk.now) opened c.in_ok-mill.ensures.mill is;
+      store = (refl, ap (λ (names : List (List ℕ)). names ++ c.args.cut.now ∷ []) is);
+    })

@@ -7,6 +7,7 @@ use Rattle.run_words.proofs.Telling.{told_each}
 use Rattle.slab_front.specs.Searched.{Searched, IsSearched, status_of}
 use Rattle.slab_front.specs.Owed.{OwesOfMill, OwesSearch, stored_as}
 use Rattle.slab_front.proofs.Owing.{owes_mill}
+use Rattle.slab_front.proofs.Opening.{opened_so, opens_mill}
 use Rattle.slab_front.proofs.solve.solve.Goals as goal
 
 pub returns-clause-answer : goal.returns-clause-answer
@@ -22,3 +23,11 @@ returns-clause-answer g c =
     (g.D.Desk.told c.args.desk.now)
     (λ files has. owes_mill (OwesSearch (stored_as name) [] c.args.limit was is) files words mill (status_of s) (stored_as name mill s) has (s, found, refl))
     c.in_ok-mill.ensures.mill
+
+pub returns-clause-named : goal.returns-clause-named
+returns-clause-named g c =
+    let words : MillWords = named_mill c.args.orders c.args.yard c.args.colours in
+    opened_so _ _ _ c.in_ok-mill.ensures.named refl (λ opened is. record {
+      order = opens_mill words c.in_ok-mill.mill (g.D.Desk.told c.args.desk.now) opened c.in_ok-mill.ensures.mill is;
+      store = (refl, is);
+    })
