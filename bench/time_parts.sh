@@ -7,6 +7,7 @@
 set -eu
 cd "$(dirname "$0")/.."
 commit=6e60c87
+program_commit=bf14413
 parts=$PWD/bench/data/parts
 mills=$PWD/bench/data
 here=$(mktemp -d)
@@ -18,21 +19,21 @@ for packed in "$parts"/*.gz; do
 done
 cp "$parts"/*.cert "$here"
 
-# The older tree, with today's program on its calls; it has no checker.
+# The older tree, with a later program of the same calls, which stood alone then and has no checks of whole certificates.
 if [ ! -d "$older" ]; then
     git clone -q . "$older"
     git -C "$older" checkout -q "$commit"
     rm -r "$older/crates/bench_parts"
-    cp -r crates/bench_parts "$older/crates/"
-    rm -rf "$older/crates/bench_parts/out" "$older/crates/bench_parts/src/checks.rt"
+    git archive "$program_commit" crates/bench_parts | tar -x -C "$older"
+    rm -r "$older/crates/bench_parts/src/checks.rt" "$older/crates/bench_parts/must-fail"
     sed -i '/^bench_parts:/d' "$older/crates.txt"
-    grep '^bench_parts:' crates.txt | sed 's/ cert_check$//' >>"$older/crates.txt"
+    git show "$program_commit:crates.txt" | grep '^bench_parts:' | sed 's/ cert_check$//' >>"$older/crates.txt"
     sed -i -e 's/read_yard(rt.alloc(), &mill, &yard)/read_yard(rt.alloc(), \&yard)/' \
         -e 's/mill.set_colour_limit(.*/let _ = colours;/' -e '/^mod checks;/d' -e '/check_often/d' "$older/crates/bench_parts/src/main.rt"
 fi
-(cd crates/bench_parts && rt run -- price data/calls data/orders data/yard 2 1 >/dev/null)
+(cd crates/slabbench && rt run -- price data/calls data/orders data/yard 2 1 >/dev/null)
 (cd "$older/crates/bench_parts" && rt run -- price data/calls data/orders data/yard 2 1 >/dev/null)
-new=$PWD/crates/bench_parts/out/bench_parts
+new=$PWD/crates/slabbench/out/slabbench
 old=$older/crates/bench_parts/out/bench_parts
 
 TIMEFORMAT=%U
@@ -55,16 +56,18 @@ ratio() { awk -v a="$1" -v b="$2" 'BEGIN { printf "%.1f", a / b }'; }
 
 # on_mill PART MILL OLD_TIMES NEW_TIMES [TIMES_OF_THREE_COLOURS]: a line of the table
 on_mill() {
-    local part=$1 mill=$2 words before now three=-
+    local part=$1 mill=$2 words older_words before now three=-
     local orders=$mills/$mill.ord yard=$mills/$mill.yard
     [ -f "$orders" ] || orders=$mills/$mill.txt
     [ -f "$yard" ] || yard=$here/empty.yard
     case "$part" in
-        master) words=("$here/$mill.mas") ;;
+        master) words=(masters "$here/$mill.mas") ;;
         leaf) words=(leaf "$here/$mill.cert" "$orders" "$yard" 2) ;;
         *) words=("$part" "$here/$mill.pri" "$orders" "$yard" 2) ;;
     esac
-    before=$(each "$old" "$3" "${words[@]}")
+    older_words=("${words[@]}")
+    [ "$part" != master ] || older_words=("$here/$mill.mas")
+    before=$(each "$old" "$3" "${older_words[@]}")
     now=$(each "$new" "$4" "${words[@]}")
     if [ $# = 5 ]; then
         words[4]=3

@@ -1,11 +1,11 @@
 #!/bin/bash
-# Times the questions of each mill of bench/data from outside, by the processor time that bench_questions takes: a line for each
+# Times the questions of each mill of bench/data from outside, by the processor time that slabbench takes: a line for each
 # mill, with its questions, nodes, the splits of its tightened trees, bare splits, turns, solves, pivots and overflows.
-# Usage: bench/time_questions.sh        (builds crates/bench_questions first)
+# Usage: bench/time_questions.sh        (builds crates/slabbench first)
 set -eu
-cd "$(dirname "$0")/../crates/bench_questions"
-rt run -- data/two_orders.ord - 2 100 >/dev/null
-program="$PWD/out/bench_questions"
+cd "$(dirname "$0")/../crates/slabbench"
+rt run -- questions data/three_pairs.ord - 2 100 >/dev/null
+program="$PWD/out/slabbench"
 data="$PWD/../../bench/data"
 said=$(mktemp)
 TIMEFORMAT=%U
@@ -14,7 +14,7 @@ for orders in "$data"/*.ord "$data"/csplib111.txt; do
     name=$(basename "${orders%.*}")
     yard=-
     [ -f "$data/$name.yard" ] && yard="$data/$name.yard"
-    seconds=$({ time "$program" "$orders" "$yard" 2 1000000 >"$said" || true; } 2>&1)
+    seconds=$({ time "$program" questions "$orders" "$yard" 2 1000000 >"$said" || true; } 2>&1)
     awk -v name="$name" -v seconds="$seconds" '
         $3 == "least" { front = front "(" $4 ", " $5 ") " }
         $1 == "limit" { questions++; for (i = 3; i < NF; i++) if ($i == "splits") splits += $(i + 1); ended = $3 }

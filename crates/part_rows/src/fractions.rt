@@ -1,8 +1,7 @@
 //! Fractions, and what leaves their range.
-ghost use Rattle.std.specs.Prelude.{◌≡◌, ◌≤◌, ◌≢◌, ◌^◌, pos, unsigned_abs, IsTrue};
-
-use slab_frac::{Frac, Wides, scale_all};
-use std::cmp::Ordering;
+use slab_frac::{
+    Frac, Wides, in_range, lowest_words, scale_all, wide_divisor, word_divisor, word_quotient,
+};
 use std::test::Fail;
 
 // The greatest numerator and denominator.
@@ -13,70 +12,48 @@ type Parts = (i64, i64);
 
 fn fraction(parts: Parts, wides: &mut Wides) -> Option<Frac> {
     let (num, den) = parts;
-    if num.unsigned_abs() > END.unsigned_abs() || den < 1 || den > END {
+    if den < 1 {
         return None;
     }
-    Frac::whole(num).div(&Frac::whole(den), wides)
+    Frac::of_parts(num, den.unsigned_abs(), wides)
 }
 
-#[derive(Clone, Copy)]
-enum Op {
-    Add,
-    Sub,
-    Mul,
-}
-
-fn of_two(op: Op, left: Parts, right: Parts, wides: &mut Wides) -> Option<Frac> {
-    let left = fraction(left, wides)?;
-    let right = fraction(right, wides)?;
-    match op {
-        Op::Add => left.add(&right, wides),
-        Op::Sub => left.sub(&right, wides),
-        Op::Mul => left.mul(&right, wides),
-    }
-}
-
-// Whether the answer is this one, and one out of range is counted.
-fn is(answer: Option<Frac>, wides: &Wides, wanted: Option<Parts>) -> bool {
-    match (answer, wanted) {
-        (Some(x), Some((num, den))) => wides.count() == 0 && x.num() == num && x.den() == den,
-        (None, None) => wides.count() == 1,
-        _ => false,
+#[test]
+fn lowest_terms(rt: HostRuntime) {
+    for (parts, wanted) in [
+        ((6, 4), Some((3, 2))),
+        ((-6, 4), Some((-3, 2))),
+        ((0, 7), Some((0, 1))),
+        ((-END, END), Some((-1, 1))),
+        ((i64::MIN, 2), Some((-END, 1))),
+        ((i64::MIN, 1), None),
+        ((1, i64::MAX), None),
+    ] {
+        let mut wides = Wides::new();
+        let answer = fraction(parts, &mut wides).map(|x| (x.num(), x.den()));
+        assert!(rt; answer == wanted, "{parts:?}");
+        assert!(rt;
+            wides.count() == if wanted.is_none() { 1 } else { 0 },
+            "{parts:?}"
+        );
     }
 }
 
 #[test]
-fn sums_and_products(rt: HostRuntime) {
-    for (op, left, right, wanted) in [
-        (Op::Add, (1, 3), (1, 6), Some((1, 2))),
-        (Op::Sub, (1, 3), (1, 2), Some((-1, 6))),
-        (Op::Mul, (-1, 6), (-6, 1), Some((1, 1))),
-        (Op::Add, (END, 1), (1, 1), None),
-    ] {
-        let mut wides = Wides::new();
-        let answer = of_two(op, left, right, &mut wides);
-        assert!(rt; is(answer, &wides, wanted), "{left:?} {right:?}");
-    }
-}
-
-fn less(from: Parts, factor: Parts, other: Parts, wides: &mut Wides) -> Option<Frac> {
-    let from = fraction(from, wides)?;
-    let factor = fraction(factor, wides)?;
-    let other = fraction(other, wides)?;
-    from.minus_product(&factor, &other, wides)
+fn the_range_ends_at_two_to_the_62(rt: HostRuntime) {
+    let end = END as i128;
+    let mut wides = Wides::new();
+    assert!(rt; in_range(end, &mut wides) == Some(END) && in_range(-end, &mut wides) == Some(-END));
+    assert!(rt; wides.count() == 0);
+    assert!(rt; in_range(end + 1, &mut wides) == None && in_range(-end - 1, &mut wides) == None);
+    assert!(rt; wides.count() == 2);
 }
 
 #[test]
-fn less_a_product(rt: HostRuntime) {
-    for (from, factor, other, wanted) in [
-        ((1, 2), (1, 3), (1, 6), Some((4, 9))),
-        ((END, 1), (END, 1), (2, 1), Some((-END, 1))),
-        ((1, END), (1, END), (1, END), None),
-    ] {
-        let mut wides = Wides::new();
-        let answer = less(from, factor, other, &mut wides);
-        assert!(rt; is(answer, &wides, wanted), "{from:?}");
-    }
+fn common_divisors(rt: HostRuntime) {
+    assert!(rt; word_divisor(12, 18) == 6 && word_divisor(0, 5) == 5);
+    assert!(rt; wide_divisor(1 << 100, 3 << 99) == 1 << 99);
+    assert!(rt; lowest_words(12, 18) == (2, 3) && word_quotient(12, 5) == 2);
 }
 
 // The least common denominator of two fractions, and their numerators over it.
@@ -94,14 +71,4 @@ fn common_denominators(rt: HostRuntime) {
     assert!(rt; wides.count() == 0);
     assert!(rt; scaled((1, END), (1, 3), &mut wides) == None);
     assert!(rt; wides.count() == 1);
-}
-
-#[test]
-fn a_half_is_more_than_a_third(rt: HostRuntime) {
-    let mut wides = Wides::new();
-    let order = match (fraction((1, 2), &mut wides), fraction((1, 3), &mut wides)) {
-        (Some(half), Some(third)) => half.cmp(&third),
-        _ => Ordering::Equal,
-    };
-    assert!(rt; order == Ordering::Greater);
 }

@@ -1,16 +1,15 @@
 -- Orders that together are worth no more than any slab costs.
-use Rattle.std.proofs.Common.{inl, inr, ◌≡◌, ℕ, ◌+◌, ◌-◌, ◌*◌, ◌^◌, ◌<◌, ◌≤◌, ℤ, pos, ◌+ℤ◌, ◌≤ℤ◌, List, [], ◌∷◌, length, subst, ap, arith}
+use Rattle.std.proofs.Common.{inl, inr, ◌≡◌, ℕ, ◌+◌, ◌-◌, ◌*◌, ◌<◌, ◌≤◌, ℤ, pos, ◌+ℤ◌, ◌≤ℤ◌, List, [], ◌∷◌, length, subst, ap, arith}
 use Rattle.std.specs.Prelude.{◌*ℤ◌, unsigned_abs}
-use Rattle.std.specs.List.{sum_by}
 use Rattle.std.proofs.lemmas.Int.{ints}
 use Rattle.std.proofs.lemmas.Bool.{cases_eq}
 use Rattle.std.proofs.lemmas.List.Sums.{sum_by-cons}
 use Rattle.mill_model.specs.declared.kind.Kind.{Kind}
 use Rattle.mill_model.specs.Mill.{Mill}
 use Rattle.mill_model.specs.SignedSums.{total_by}
-use Rattle.mill_model.specs.Columns.{Column, IsInStock, IsLegalColumn, Rises, load, loss_of, order_at, size_of}
+use Rattle.mill_model.specs.Columns.{IsInStock, Rises, load, loss_of, order_at, size_of}
 use Rattle.mill_model.specs.Decisions.{Decision}
-use Rattle.mill_model.specs.Prices.{IsPriced, NoneExceeds, Prices, charge, most_price, price_at}
+use Rattle.mill_model.specs.Prices.{NoneExceeds, Prices, charge, most_price, price_at}
 use Rattle.mill_model.proofs.Signed.{mul_le, mul_zero}
 use Rattle.pricing_laws.specs.Worths.{IsFloor}
 

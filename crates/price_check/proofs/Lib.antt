@@ -3,11 +3,9 @@ pub mod Marks
 pub mod Trails
 pub mod Reversed
 pub mod Quotes
-pub mod Sums
 pub mod Apartness
 pub mod Groupings
 pub mod Options
-pub mod LeafRules
 pub mod Answering
 pub mod Packs
 pub mod CheapOrders

@@ -1,7 +1,5 @@
 -- The numbers of a leaf are in the range of prices.
-use Rattle.std.proofs.Common.{ℕ, ◌+◌, ◌≤◌, ◌^◌, ℤ, pos, List, length, drop, arith}
-use Rattle.std.specs.Prelude.{unsigned_abs}
-use Rattle.std.proofs.lemmas.Int.{ints}
+use Rattle.std.proofs.Common.{ℕ, ◌+◌, ◌≤◌, ℤ, pos, List, length, drop, arith}
 use Rattle.std.proofs.lemmas.List.Elements.{All-get_or, All-take, All-drop}
 use Rattle.mill_model.specs.Prices.{IsPrice, ArePrices, prices_of}
 use Rattle.price_check.specs.Numbers.{AreQuoted}

@@ -36,11 +36,6 @@ dist_sub_right_int a b c =
     let whole : ((a -ℤ b) *ℤ c) +ℤ (b *ℤ c) ≡ a *ℤ c = sym spread ∙ ap (λ (z : ℤ). z *ℤ c) back in
     omega (arith, ints, whole)
 
--- equal products of the two factors
-pub two_factors : (z : ℤ) (m n p q : ℕ) → m * n ≡ p * q → (z *ℤ pos m) *ℤ pos n ≡ (z *ℤ pos p) *ℤ pos q
-two_factors z m n p q e =
-    mul_assoc_int z (pos m) (pos n) ∙ ap (λ (k : ℕ). z *ℤ pos k) e ∙ sym (mul_assoc_int z (pos p) (pos q))
-
 -- a factor that is equal on both sides, above 0
 pub mul_cancel_pos : (a b : ℤ) (n : ℕ) → 0 < n → a *ℤ pos n ≡ b *ℤ pos n → a ≡ b
 mul_cancel_pos a b n p e =

@@ -1,6 +1,5 @@
 ghost use Rattle.std.specs.Prelude.{ℕ, ◌≡◌, ◌/◌, ◌*◌, ◌^◌, ◌<◌, ◌≤◌};
 ghost use Rattle.std.specs.Int.{IsGcd};
-ghost use Prim.Native.Nat.{◌∣◌};
 ghost use Rattle.slab_frac.specs.Odd.{IsOdd, IsOddPart};
 
 // The greatest word, above which a division takes two words.
@@ -34,8 +33,8 @@ fn odd_divisor(a: u64, b: u64) -> u64
     x
 }
 
-// The greatest common divisor of two words (the binary one of J. Stein, 1967).
-pub(crate) fn word_divisor(a: u64, b: u64) -> u64
+/// The greatest common divisor of two words (the binary one of J. Stein, 1967).
+pub fn word_divisor(a: u64, b: u64) -> u64
     ensures { IsGcd a b result }
 {
     if b == 0 {
@@ -52,8 +51,8 @@ pub(crate) fn word_divisor(a: u64, b: u64) -> u64
     odd_divisor(a >> first, b >> second) << first.min(second)
 }
 
-// The greatest common divisor.
-pub(crate) fn wide_divisor(a: u128, b: u128) -> u128
+/// The greatest common divisor.
+pub fn wide_divisor(a: u128, b: u128) -> u128
     ensures { IsGcd a b result }
 {
     let mut x = a;
@@ -70,9 +69,9 @@ pub(crate) fn wide_divisor(a: u128, b: u128) -> u128
     word_divisor(y as u64, rest as u64) as u128
 }
 
-// The quotient, without a division where the divisor is 1.
+/// The quotient, without a division where the divisor is 1.
 #[inline(always)]
-pub(crate) fn word_quotient(n: u64, divisor: u64) -> u64
+pub fn word_quotient(n: u64, divisor: u64) -> u64
     requires { 0 < divisor }
     ensures { result ≡ n / divisor }
 {
@@ -80,22 +79,4 @@ pub(crate) fn word_quotient(n: u64, divisor: u64) -> u64
         return n;
     }
     n / divisor
-}
-
-// A common divisor of two denominators that is worth its search: themselves where they are equal, 1 where their
-// product is a word, and else the greatest.
-#[inline(always)]
-pub(crate) fn shared_divisor(a: u64, b: u64) -> u64
-    requires { 0 < a }
-    ensures above { 0 < result }
-    ensures first { result ∣ a }
-    ensures second { result ∣ b }
-{
-    if a == b {
-        return a;
-    }
-    if a as u128 * b as u128 <= WORD {
-        return 1;
-    }
-    word_divisor(a, b)
 }

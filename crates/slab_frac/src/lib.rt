@@ -10,6 +10,8 @@ mod lowest;
 mod scale;
 mod wides;
 
+pub use divisor::{wide_divisor, word_divisor, word_quotient};
 pub use frac::Frac;
+pub use lowest::{in_range, lowest_words};
 pub use scale::scale_all;
 pub use wides::Wides;

@@ -1,4 +1,4 @@
-ghost use Rattle.std.specs.Prelude.{ℕ, ◌≡◌, ◌+◌, ◌*◌, ◌^◌, ◌<◌, ◌≤◌, ℤ, pos, unsigned_abs, is_some, if◌then◌else◌, ◌*ℤ◌};
+ghost use Rattle.std.specs.Prelude.{ℕ, ◌≡◌, ◌+◌, ◌*◌, ◌^◌, ◌<◌, ◌≤◌, ℤ, pos, unsigned_abs, IfSome, IfNone, is_some, if◌then◌else◌, ◌*ℤ◌};
 ghost use Rattle.slab_counter.specs.Counter.{next_count};
 ghost use Rattle.slab_frac.specs.Fraction.{IsExactly, signed_like};
 ghost use Rattle.slab_frac.specs.Lowest.{AreLowest};
@@ -10,9 +10,9 @@ use crate::wides::Wides;
 // The largest absolute value of a numerator, and the largest denominator.
 pub(crate) const LIMIT: u128 = 0x4000_0000_0000_0000;
 
-// Two words, divided by their greatest common divisor.
+/// Two numbers, divided by their greatest common divisor.
 #[inline(always)]
-fn lowest_words(size: u64, den: u64) -> (u64, u64)
+pub fn lowest_words(size: u64, den: u64) -> (u64, u64)
     requires { 0 < den }
     ensures { AreLowest size den result.0 result.1 }
 {
@@ -34,6 +34,22 @@ pub(crate) fn lowest(size: u128, den: u128) -> (u128, u128)
     (size / shared, den / shared)
 }
 
+/// The number in 64 bits, or none where its absolute value is beyond 2^62, which is counted.
+#[inline(always)]
+pub fn in_range(n: i128, wides: &mut Wides) -> Option<i64>
+    ensures value { IfSome result (λ z. z ≡ n) }
+    ensures bound { IfSome result (λ z. unsigned_abs z ≤ 2 ^ 62) }
+    ensures none { IfNone result (2 ^ 62 < unsigned_abs n) }
+    ensures counter { wides.new ≡ (if is_some result then wides.old else next_count wides.old) }
+    ensures grows { wides.old ≤ wides.new }
+{
+    if n.unsigned_abs() > LIMIT {
+        wides.raise();
+        return None;
+    }
+    Some(n as i64)
+}
+
 // The number `size` with the sign of `like`.
 #[inline(always)]
 pub(crate) fn signed(size: u128, like: i128) -> i64
@@ -41,15 +57,6 @@ pub(crate) fn signed(size: u128, like: i128) -> i64
     ensures { result ≡ signed_like like (pos size) }
 {
     let unsigned = size as i64;
-    if like < 0 { -unsigned } else { unsigned }
-}
-
-// The same in 128 bits.
-pub(crate) fn signed_wide(size: u128, like: i128) -> i128
-    requires { size ≤ 2 ^ 124 }
-    ensures { result ≡ signed_like like (pos size) }
-{
-    let unsigned = size as i128;
     if like < 0 { -unsigned } else { unsigned }
 }
 

@@ -20,7 +20,8 @@ use Rattle.slab_sweep.specs.Counting.{questions_left, OpensFew, CountsNodes, Cou
 use Rattle.slab_sweep.specs.Made.{nodes_of, bares_of}
 use Rattle.slab_sweep.proofs.Progress.{few_left}
 use Rattle.slab_sweep.specs.Swept.{AreWithin, HasTreesWithin, IsSwept, IsSweptAtOnce, IsToldPlainly, made_nodes, added_to}
-use Rattle.slab_start.specs.FirstFit.{first_fit, place_orders, by_weight, plan_of_filled}
+use Rattle.slab_start.specs.FirstFit.{first_fit, place_orders, by_weight}
+use Rattle.slab_filling.specs.Closing.{plan_of_filled}
 use Rattle.slab_start.specs.Made.{made_mill}
 use Rattle.slab_start.proofs.Started.{first_fit_starts}
 use Rattle.slab_start.proofs.MadePlain.{made_is_plain}

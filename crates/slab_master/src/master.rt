@@ -9,7 +9,7 @@ use crate::given::Sense;
 use crate::likely::write_likely;
 use crate::outcome::{Answer, Ended, Least, Outcome};
 use crate::problem::{Aim, Problem};
-use crate::search::Basis;
+use crate::search::{Basis, WholeRow};
 use crate::stalls::Stalls;
 use crate::turns::solve_over;
 use slab_frac::{Frac, Wides};
@@ -21,8 +21,11 @@ use std::marker::Model;
 pub struct Master {
     rows: Vec<(Sense, i64)>,
     columns: Vec<Vec<(u16, i64)>>,
-    working: Vec<Vec<Frac>>,
+    working: Vec<WholeRow>,
     basis: Basis,
+
+    // Room for the working row that is lent.
+    lent: Vec<Frac>,
 
     // The columns that were basic at the end of the solve before, or that were hinted since.
     likely: Vec<usize>,
@@ -40,12 +43,12 @@ impl Model for Master {
 }
 
 // So many empty rows.
-fn empty_rows(alloc: Global, count: usize) -> Result<Vec<Vec<Frac>>, AllocError>
+fn empty_rows(alloc: Global, count: usize) -> Result<Vec<WholeRow>, AllocError>
     ensures { IfOk result (λ v. vec_len v ≡ count) }
 {
     let mut rows = Vec::new(alloc);
     for _row in 0..count {
-        rows.push(Vec::new(alloc))?;
+        rows.push(WholeRow::new(alloc))?;
     }
     Ok(rows)
 }
@@ -64,6 +67,7 @@ impl Master {
             columns: Vec::new(alloc),
             working: empty_rows(alloc, rows.len())?,
             basis: Basis::new(alloc),
+            lent: Vec::with_capacity(alloc, rows.len().saturating_add(1))?,
             likely: Vec::with_capacity(alloc, rows.len())?,
         })
     }
@@ -194,6 +198,7 @@ impl Master {
         ensures* { sem 𝓛 (LendsWorkingRow self.entry result) }
     {
         self.basis.set_standing(false);
-        self.working[i].as_mut_slice()
+        self.working[i].write_fractions(&mut self.lent);
+        self.lent.as_mut_slice()
     }
 }

@@ -8,8 +8,8 @@ use crate::check_least::test_least;
 use crate::frac_list::FracList;
 use crate::outcome::{Answer, Turn};
 use crate::problem::{Aim, Problem};
-use crate::search::Basis;
-use slab_frac::{Frac, Wides};
+use crate::search::{Basis, WholeRow};
+use slab_frac::Wides;
 use std::alloc::{AllocError, Global};
 
 // So many zeros.
@@ -25,7 +25,7 @@ fn zeros(alloc: Global, count: usize) -> Result<Vec<i64>, AllocError>
 pub(crate) fn offer_spread(
     alloc: Global,
     problem: &Problem<'_>,
-    working: &[Vec<Frac>],
+    working: &[WholeRow],
     basis: &Basis,
     wides: &mut Wides,
 ) -> Result<Turn, AllocError>
@@ -35,7 +35,7 @@ pub(crate) fn offer_spread(
     if problem.goal != Aim::Meet {
         return Ok(Turn::Again);
     }
-    let spread = basis.spread(alloc, working, problem.columns.len())?;
+    let spread = basis.spread(alloc, working, problem.columns.len(), wides)?;
     let mut scaled = zeros(alloc, problem.columns.len())?;
     match test_spread(problem, &spread, &mut scaled, wides) {
         Tested::Holds(_denominator) => Ok(Turn::Answers(Answer::Meets(FracList::new(spread)))),
@@ -54,7 +54,7 @@ pub(crate) fn offer_prices(
     ensures grows { wides.old ≤ wides.new }
     ensures holds { IfOk result (TurnHolds problem.now wides.old wides.new) }
 {
-    let prices = basis.prices(alloc, problem.rows, wides)?;
+    let prices = basis.prices(alloc, problem.rows.len(), wides)?;
     let mut scaled = zeros(alloc, problem.rows.len())?;
     match test_prices(problem, &prices, &mut scaled, wides) {
         Tested::Holds(_denominator) => Ok(Turn::Answers(Answer::Refutes(FracList::new(prices)))),
@@ -67,7 +67,7 @@ pub(crate) fn offer_prices(
 pub(crate) fn offer_least(
     alloc: Global,
     problem: &Problem<'_>,
-    working: &[Vec<Frac>],
+    working: &[WholeRow],
     basis: &Basis,
     wides: &mut Wides,
 ) -> Result<Turn, AllocError>
@@ -77,8 +77,8 @@ pub(crate) fn offer_least(
     if problem.goal != Aim::Lessen {
         return Ok(Turn::Again);
     }
-    let x = basis.spread(alloc, working, problem.columns.len())?;
-    let y = basis.prices(alloc, problem.rows, wides)?;
+    let x = basis.spread(alloc, working, problem.columns.len(), wides)?;
+    let y = basis.prices(alloc, problem.rows.len(), wides)?;
     let mut multipliers = zeros(alloc, problem.columns.len())?;
     let mut prices = zeros(alloc, problem.rows.len())?;
     match test_least(problem, &x, &y, &mut multipliers, &mut prices, wides) {

@@ -7,9 +7,9 @@ ghost use Rattle.slab_master.specs.StallCounts.{RoseAtMost};
 use crate::offers::{offer_least, offer_prices, offer_spread};
 use crate::outcome::{Ended, Turn};
 use crate::problem::Problem;
-use crate::search::{Basis, Step};
+use crate::search::{Basis, Step, WholeRow};
 use crate::stalls::Stalls;
-use slab_frac::{Frac, Wides};
+use slab_frac::Wides;
 use std::alloc::{AllocError, Global};
 
 // The most pivots of one solve.
@@ -18,7 +18,7 @@ const PIVOTS: u32 = 20_000;
 // Makes the working rows anew, with nothing preferred.
 fn restart(
     problem: &Problem<'_>,
-    working: &mut [Vec<Frac>],
+    working: &mut [WholeRow],
     basis: &mut Basis,
     wides: &mut Wides,
 ) -> Result<Turn, AllocError>
@@ -36,7 +36,7 @@ fn restart(
 fn turn(
     alloc: Global,
     problem: &Problem<'_>,
-    working: &mut [Vec<Frac>],
+    working: &mut [WholeRow],
     basis: &mut Basis,
     wides: &mut Wides,
 ) -> Result<Turn, AllocError>
@@ -63,7 +63,7 @@ fn turn(
 pub(crate) fn solve_over(
     alloc: Global,
     problem: &Problem<'_>,
-    working: &mut [Vec<Frac>],
+    working: &mut [WholeRow],
     basis: &mut Basis,
     wides: &mut Wides,
     stalls: &mut Stalls,

@@ -10,12 +10,12 @@ use Rattle.mill_model.specs.declared.kind.Kind.TheVariants.{New}
 use Rattle.mill_model.specs.Mill.{Mill}
 use Rattle.mill_model.specs.Plain.{greatest_size}
 use Rattle.mill_model.specs.Columns.{Column, order_at, load, different, colours_of}
-use Rattle.slab_start.specs.Lists.{put_before}
-use Rattle.slab_start.specs.Slabs.{empty, with_order, takes}
+use Rattle.slab_filling.specs.Lists.{put_before}
+use Rattle.slab_filling.specs.Slabs.{empty, with_order, takes}
 use Rattle.slab_start.specs.FirstFit.{is_lighter, by_weight, on_opened, place_order, place_orders}
-use Rattle.slab_start.proofs.PutBefore.{sum_by-put, All-put, put-cons}
-use Rattle.slab_start.proofs.Loads.{different-put}
-use Rattle.slab_start.proofs.Counts.{one, none, counted-cons, none_passes, first_within}
+use Rattle.slab_filling.proofs.PutBefore.{sum_by-put, All-put, put-cons}
+use Rattle.slab_filling.proofs.Loads.{different-put}
+use Rattle.slab_filling.proofs.Counts.{one, none, counted-cons, none_passes, first_within}
 
 -- ---- where a test passes nowhere, or somewhere
 

@@ -1,11 +1,6 @@
-pub mod Places
-pub mod Ranges
-pub mod PutBefore
-pub mod Counts
-pub mod Loads
 pub mod Opening
 pub mod MadeLimits
-pub mod Filled
+pub mod Placed
 pub mod Started
 pub mod Halves
 pub mod MadePlain

@@ -7,8 +7,9 @@ use Rattle.std.proofs.lemmas.List.Sums.{AllPass-from_list_all}
 use Rattle.std.proofs.lemmas.List.Elements.{All-nil, All-map}
 use Rattle.mill_model.specs.declared.order.Order.{Order}
 use Rattle.mill_model.specs.Mill.{IsInLimits, IsBetween, most_orders, most_weight}
-use Rattle.slab_start.specs.Made.{draw, first_weight, made_weight, made_order, made_sizes, made_mill}
-use Rattle.slab_start.proofs.Ranges.{length-range}
+use Rattle.slab_start.specs.Made.{first_weight, made_weight, made_order, made_sizes, made_mill}
+use Rattle.number_draws.specs.Draws.{draw}
+use Rattle.slab_filling.proofs.Ranges.{length-range}
 
 pub first_between : (seed k : ℕ) → IsBetween 1 43 (first_weight seed k)
 first_between seed k = remainder (draw seed k / 65536)

@@ -13,14 +13,17 @@ use Rattle.mill_model.specs.declared.kind.Kind.TheVariants.{New}
 use Rattle.mill_model.specs.Plain.{total_weight}
 use Rattle.mill_model.specs.Plans.{is_new}
 use Rattle.mill_model.specs.Columns.{Column, load, size_of}
-use Rattle.slab_start.specs.Slabs.{closed, closed_kind, least_size}
-use Rattle.slab_start.specs.FirstFit.{by_weight, kinds_of, closed_slabs, plan_of}
+use Rattle.slab_filling.specs.Slabs.{closed, closed_kind, least_size}
+use Rattle.slab_start.specs.FirstFit.{by_weight}
+use Rattle.slab_filling.specs.Closing.{closed_slabs, plan_of}
+use Rattle.slab_filling.specs.Placing.{kinds_of}
 use Rattle.slab_start.specs.Made.{first_weight, made_weight, made_order, made_mill}
 use Rattle.slab_start.specs.Plain.{IsMadePlain}
-use Rattle.slab_start.proofs.Ranges.{length-range, get_or-range, fold_range_more}
-use Rattle.slab_start.proofs.Counts.{none, sum_by-map}
+use Rattle.slab_filling.proofs.Ranges.{length-range, get_or-range, fold_range_more}
+use Rattle.slab_filling.proofs.Counts.{none, sum_by-map}
 use Rattle.slab_start.proofs.MadeLimits.{first_between, weight_between}
-use Rattle.slab_start.proofs.Started.{sum_by-weight, All-weight, sum_by-closed, counted-closed, same_new}
+use Rattle.slab_start.proofs.Started.{sum_by-weight, All-weight}
+use Rattle.slab_filling.proofs.Closed.{sum_by-closed, counted-closed, same_new}
 use Rattle.slab_start.proofs.Halves.{weight, orders_of, falls_all, AreHalves, all_halves, all_full}
 
 -- ---- sums over ranges

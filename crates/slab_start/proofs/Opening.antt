@@ -5,8 +5,8 @@ use Rattle.mill_model.specs.declared.kind.Kind.{Kind}
 use Rattle.mill_model.specs.declared.kind.Kind.TheVariants.{Old}
 use Rattle.mill_model.specs.Mill.{Mill}
 use Rattle.mill_model.specs.Columns.{Column, is_old}
-use Rattle.slab_start.specs.Slabs.{empty, takes}
-use Rattle.slab_start.specs.FirstFit.{kinds_of, free_kinds}
+use Rattle.slab_filling.specs.Slabs.{empty, takes}
+use Rattle.slab_filling.specs.Placing.{kinds_of, free_kinds}
 
 -- what is found among the surplus slabs from s on
 abbrev pub found_from : (ℕ → Bool) → (Kind → Bool) → ℕ → ℕ → Option Kind

@@ -1,20 +1,13 @@
 -- Mills that are made from a number: each two orders fill a slab of size 44.
-use Rattle.std.specs.Prelude.{ℕ, zero, suc, ◌+◌, ◌-◌, ◌*◌, ◌/◌, ◌%◌, ◌^◌, nat_eq, if◌then◌else◌, List, [], ◌∷◌, map}
+use Rattle.std.specs.Prelude.{ℕ, ◌+◌, ◌-◌, ◌/◌, ◌%◌, nat_eq, if◌then◌else◌, List, [], ◌∷◌, map}
 use Rattle.std.specs.List.{range_with_len}
 use Rattle.mill_model.specs.declared.order.Order.{Order}
 use Rattle.mill_model.specs.Mill.{Mill}
-
--- the numbers of a linear congruential generator
-abbrev pub next_draw : ℕ → ℕ
-next_draw x = (1664525 * x + 1013904223) % 2 ^ 32
-
-abbrev pub draw : ℕ → ℕ → ℕ
-draw seed zero = seed
-draw seed (suc k) = next_draw (draw seed k)
+use Rattle.number_draws.specs.Draws.{draw, among}
 
 -- the first weight of pair k, counted from 1: 1 to 43. The other is what it lacks of 44
 abbrev pub first_weight : ℕ → ℕ → ℕ
-first_weight seed k = 1 + (draw seed k / 65536) % 43
+first_weight seed k = 1 + among 43 (draw seed k)
 
 -- the weight of order i of so many, counted from 0; a last order without a partner has all 44
 abbrev pub made_weight : ℕ → ℕ → ℕ → ℕ

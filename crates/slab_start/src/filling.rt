@@ -3,14 +3,13 @@
 ghost use Rattle.std.specs.Prelude.{◌≡◌, [], IfOk};
 ghost use Rattle.std.specs.Bool.{then_some};
 ghost use Rattle.std.specs.Option.{option_map};
-ghost use Rattle.std.specs.List.{position, find, count_by, list_any};
-ghost use Rattle.mill_model.specs.Columns.{is_old as is_surplus};
-ghost use Rattle.mill_model.specs.Plans.{is_new};
-ghost use Rattle.slab_start.specs.Slabs.{takes as takes_order, takes_alone};
-ghost use Rattle.slab_start.specs.FirstFit.{place_orders, place_order as placed_order, is_below as is_below_limit, kinds_of, kinds_to_open, free_kinds};
+ghost use Rattle.std.specs.List.{position, find};
+ghost use Rattle.slab_filling.specs.Slabs.{takes as takes_order, takes_alone};
+ghost use Rattle.slab_start.specs.FirstFit.{place_orders, place_order as placed_order};
+ghost use Rattle.slab_filling.specs.Placing.{kinds_to_open, free_kinds};
 
-use crate::slab::{Slab, greatest_size, takes};
 use mill_model::{Kind, MOST_SLABS, Mill};
+use slab_filling::{Slab, greatest_size, is_below, is_open, new_slabs, takes};
 use std::alloc::{AllocError, Global};
 
 // Places the orders in turn, each on the first slab that takes it.
@@ -88,47 +87,4 @@ fn surplus_to_open(mill: &Mill, order: u16, slabs: &[Slab]) -> Option<Kind>
         }
     }
     None
-}
-
-fn is_open(slabs: &[Slab], surplus: u16) -> bool
-    ensures { result ≡ list_any (is_surplus surplus) (kinds_of slabs.now) }
-{
-    for slab in slabs {
-        if is_old(slab.kind(), surplus) {
-            return true;
-        }
-    }
-    false
-}
-
-fn is_old(kind: Kind, surplus: u16) -> bool
-    ensures { result ≡ is_surplus surplus kind }
-{
-    match kind {
-        Kind::New(_) => false,
-        Kind::Old(other) => other == surplus,
-    }
-}
-
-// How many of the slabs are new.
-fn new_slabs(slabs: &[Slab]) -> usize
-    ensures { result ≡ count_by is_new (kinds_of slabs.now) }
-{
-    let mut count = 0;
-    for slab in slabs {
-        match slab.kind() {
-            Kind::New(_) => count += 1,
-            Kind::Old(_) => {}
-        }
-    }
-    count
-}
-
-fn is_below(count: usize, limit: Option<i64>) -> bool
-    ensures { result ≡ is_below_limit count limit }
-{
-    match limit {
-        None => true,
-        Some(limit) => limit >= 0 && (count as u64) < limit as u64,
-    }
 }

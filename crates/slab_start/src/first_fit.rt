@@ -1,10 +1,12 @@
+//! First fit.
+
 ghost use Rattle.std.specs.Prelude.{◌≡◌};
 ghost use Rattle.slab_start.specs.FirstFit.{can_start as can_start_within};
 
 use crate::filling::fill;
-use crate::plan::plan_of_slabs;
 use crate::weights::orders_by_weight;
 use mill_model::{Mill, Plan, Starter};
+use slab_filling::plan_of_slabs;
 use std::alloc::{AllocError, Global};
 
 /// First fit: the orders by falling weight, ties by number. Each goes on the first slab opened so far that takes it,

@@ -3,9 +3,10 @@
 ghost use Rattle.std.specs.Prelude.{ℕ, ◌≡◌, ◌<◌, ◌≤◌, ◌+◌, ◌/◌, map, IfOk};
 ghost use Rattle.std.specs.List.{range_with_len};
 ghost use Rattle.mill_model.specs.Mill.{most_orders};
-ghost use Rattle.slab_start.specs.Made.{made_mill, made_order as made_order_of, next_draw as draw_after, draw};
+ghost use Rattle.slab_start.specs.Made.{made_mill, made_order as made_order_of, first_weight};
 
 use mill_model::{Mill, Order};
+use number_draws::Draws;
 use std::alloc::{AllocError, Global};
 
 const SIZES: [u16; 20] = [
@@ -28,22 +29,23 @@ fn made_orders(alloc: Global, count: u16, seed: u32) -> Result<Vec<Order>, Alloc
     ensures { IfOk result (λ orders. orders.items ≡ map (made_order_of count seed) (range_with_len 0 count)) }
 {
     let mut orders = Vec::with_capacity(alloc, count as usize)?;
-    let mut number = next_draw(seed);
+    let mut draws = Draws { last: seed };
+    let mut drawn = draws.among(43);
     for i in 0..count {
-        orders.push(made_order(count, number, i))?;
+        orders.push(made_order(count, drawn as u16 + 1, i))?;
         if i % 2 == 1 {
-            number = next_draw(number);
+            drawn = draws.among(43);
         }
     }
     Ok(orders)
 }
 
-// Order i of so many, by the number that its pair draws.
-fn made_order(count: u16, number: u32, i: u16) -> Order
-    requires { i < count }
-    ensures { (seed : ℕ) → number ≡ draw seed (i / 2 + 1) → result ≡ made_order_of count seed i }
+// Order i of so many, where the first of its pair has this weight.
+fn made_order(count: u16, first: u16, i: u16) -> Order
+    requires place { i < count }
+    requires weight { first ≤ 44 }
+    ensures { (seed : ℕ) → first ≡ first_weight seed (i / 2 + 1) → result ≡ made_order_of count seed i }
 {
-    let first = 1 + ((number / 65536) % 43) as u16;
     let weight = if i % 2 == 1 {
         44 - first
     } else if i + 1 == count {
@@ -55,11 +57,4 @@ fn made_order(count: u16, number: u32, i: u16) -> Order
         weight,
         colour: i % 88 + 1,
     }
-}
-
-// The number after this one.
-fn next_draw(number: u32) -> u32
-    ensures { result ≡ draw_after number }
-{
-    ((1664525 * u64::from(number) + 1013904223) % (1 << 32)) as u32
 }

@@ -1,20 +1,17 @@
 //! The state of the search, and its steps.
 
-ghost use Rattle.std.specs.Prelude.{ℕ, ◌≡◌, ◌<◌, ◌≤◌, length, All, IfOk, IfNone};
+ghost use Rattle.std.specs.Prelude.{ℕ, ◌≡◌, ◌<◌, ◌≤◌, All, IfOk, IfNone};
 ghost use Rattle.slab_counter.specs.Counter.{Rose};
-ghost use Rattle.slab_master.specs.Given.{IsColumn, IsSmall};
+ghost use Rattle.slab_master.specs.Given.{IsSmall};
 
 use crate::given::Sense;
 use crate::likely::add_likely;
 use crate::problem::{Aim, Problem};
 use crate::search::basic::Basic;
-use crate::search::cells::{
-    cell_at, clear_cells, clear_column, clear_rows, combined, divide_row, put, right_side,
-    subtract_multiple, turned,
-};
-use crate::search::entering::{Pricing, choose_entering, turn_back};
-use crate::search::leaving::{Leaving, leaving_row};
-use slab_frac::{Frac, Wides, scale_all};
+use crate::search::entering::{Pricing, choose_entering};
+use crate::search::leaving::leaving_row;
+use crate::search::whole_row::WholeRow;
+use slab_frac::{Wides, in_range};
 use std::alloc::{AllocError, Global};
 use std::mem;
 
@@ -33,34 +30,25 @@ pub(crate) enum Step {
     Wide,
 }
 
-// What may enter.
-enum Choice {
-    Enters(Basic),
-    Nothing,
-    Wide,
-}
-
-// The basis of the working rows. These are its inverse: a cell for the unit column of each row, and the right side. A row
-// whose right side is negative stands with all signs turned.
+// The basis of the working rows. These are its inverse: a number for each given row, and the right side. What is basic in a
+// row stands in it with a 1, so a row whose right side is negative begins with its sign turned.
 #[derive(Drop)]
 pub(crate) struct Basis {
     // What is basic in each row.
     pub(crate) basics: Vec<Basic>,
 
     // The reduced costs of the unit columns, and less the value of the aim in the place of the right side.
-    pub(crate) reduced: Vec<Frac>,
+    pub(crate) reduced: WholeRow,
 
     // What the reduced costs are of.
     aim: Aim,
 
-    // The entering column by the basis, with its reduced cost at the end.
-    direction: Vec<Frac>,
+    // The entering column by the basis, each cell over its row's denominator, with its reduced cost at the end.
+    direction: Vec<i64>,
 
-    // Room for the row that a pivot takes out.
-    taken: Vec<Frac>,
-
-    // Room for a whole number for each row.
-    scaled: Vec<i64>,
+    // Room for the row that a pivot takes out, and for the places where a row that is taken off others isn't 0.
+    taken: WholeRow,
+    filled: Vec<usize>,
 
     // How many pivots in a row moved nothing.
     idle: usize,
@@ -84,65 +72,62 @@ fn weight_of(basic: Basic, aim: Aim, costs: &[i64]) -> i64
     }
 }
 
-// Takes each working row off the reduced costs, times what is basic there weighs. None comes only where a fraction left its
-// range.
-fn take_weights(
-    reduced: &mut [Frac],
-    working: &[Vec<Frac>],
-    basics: &[Basic],
-    aim: Aim,
-    costs: &[i64],
+// Writes the cells of a column, one for each row. None comes only where a number left its range.
+fn fill_direction(
+    direction: &mut [i64],
+    working: &[WholeRow],
+    column: &[(u16, i64)],
     wides: &mut Wides,
 ) -> Option<()>
-    requires { All IsSmall costs.now }
     ensures grows { wides.old ≤ wides.new }
     ensures wide { IfNone result (Rose wides.old wides.new) }
 {
-    for (row, basic) in working.iter().zip(basics) {
-        let weight = weight_of(*basic, aim, costs);
-        if weight != 0 {
-            subtract_multiple(reduced, row.as_slice(), &turned(weight, false), wides)?;
+    for (place, row) in direction.iter_mut().zip(working) {
+        *place = in_range(row.product(column), wides)?;
+    }
+    Some(())
+}
+
+// Takes so much of the pivot row off each row that the entering column is 0 there. None comes only where a number left its
+// range.
+fn clear_column(
+    rows: &mut [WholeRow],
+    pivot: &WholeRow,
+    filled: &[usize],
+    direction: &[i64],
+    wides: &mut Wides,
+) -> Option<()>
+    ensures grows { wides.old ≤ wides.new }
+    ensures wide { IfNone result (Rose wides.old wides.new) }
+{
+    for (row, cell) in rows.iter_mut().zip(direction) {
+        if *cell != 0 {
+            row.subtract(pivot, filled, *cell, wides)?;
         }
     }
     Some(())
 }
 
-// Writes the cells of a column, one for each row. None comes only where a fraction left its range.
-fn fill_direction(
-    direction: &mut [Frac],
-    working: &[Vec<Frac>],
-    problem: &Problem<'_>,
-    column: &[(u16, i64)],
-    wides: &mut Wides,
-) -> Option<()>
-    requires { IsColumn (length problem.now.rows.now) column.now }
-    ensures grows { wides.old ≤ wides.new }
-    ensures wide { IfNone result (Rose wides.old wides.new) }
-{
-    for (place, cells) in direction.iter_mut().zip(working) {
-        *place = combined(
-            Frac::whole(0),
-            cells.as_slice(),
-            problem.rows,
-            column,
-            wides,
-        )?;
+// Writes zeros into each row, so many.
+fn clear_rows(rows: &mut [WholeRow], width: usize) -> Result<(), AllocError> {
+    for row in rows.iter_mut() {
+        row.clear(width)?;
     }
-    Some(())
+    Ok(())
 }
 
 // Writes unit columns and right sides into rows of zeros, and makes the first basis of slacks and artificial variables.
 fn put_units(
-    working: &mut [Vec<Frac>],
+    working: &mut [WholeRow],
     basics: &mut Vec<Basic>,
     problem: &Problem<'_>,
 ) -> Result<(), AllocError> {
     basics.clear();
-    for (i, cells) in working.iter_mut().enumerate() {
+    for (i, row) in working.iter_mut().enumerate() {
         if i < problem.rows.len() {
             let (sense, right) = problem.rows[i];
-            put(cells, i, Frac::whole(1));
-            put(cells, problem.rows.len(), turned(right, right < 0));
+            row.put(i, if right < 0 { -1 } else { 1 });
+            row.put(problem.rows.len(), right.wrapping_abs());
             basics.push(first_basic(sense, right, i))?;
         }
     }
@@ -162,11 +147,11 @@ impl Basis {
     pub(crate) fn new(alloc: Global) -> Basis {
         Basis {
             basics: Vec::new(alloc),
-            reduced: Vec::new(alloc),
+            reduced: WholeRow::new(alloc),
             aim: Aim::Meet,
             direction: Vec::new(alloc),
-            taken: Vec::new(alloc),
-            scaled: Vec::new(alloc),
+            taken: WholeRow::new(alloc),
+            filled: Vec::new(alloc),
             idle: 0,
             prefers: false,
             stands: false,
@@ -178,11 +163,11 @@ impl Basis {
         self.stands = stands;
     }
 
-    // Makes the working rows anew from the rows given. None comes only where a fraction left its range.
+    // Makes the working rows anew from the rows given. None comes only where a number left its range.
     fn start(
         &mut self,
         problem: &Problem<'_>,
-        working: &mut [Vec<Frac>],
+        working: &mut [WholeRow],
         wides: &mut Wides,
     ) -> Result<Option<()>, AllocError>
         ensures grows { wides.old ≤ wides.new }
@@ -191,22 +176,21 @@ impl Basis {
         self.stands = false;
         self.idle = 0;
         let width = problem.rows.len().saturating_add(1);
-        self.reduced.clear();
-        self.reduced.resize(width, Frac::whole(0))?;
+        self.reduced.clear(width)?;
         self.direction.clear();
-        self.direction.resize(width, Frac::whole(0))?;
-        self.scaled.clear();
-        self.scaled.resize(problem.rows.len(), 0)?;
+        self.direction.resize(width, 0)?;
+        self.filled.clear();
+        self.filled.resize(width, 0)?;
         clear_rows(working, width)?;
         put_units(working, &mut self.basics, problem)?;
         Ok(self.aim_at(Aim::Meet, problem, working, wides))
     }
 
-    // Makes the working rows anew, with nothing preferred. None comes only where a fraction left its range.
+    // Makes the working rows anew, with nothing preferred. None comes only where a number left its range.
     pub(crate) fn restart(
         &mut self,
         problem: &Problem<'_>,
-        working: &mut [Vec<Frac>],
+        working: &mut [WholeRow],
         wides: &mut Wides,
     ) -> Result<Option<()>, AllocError>
         ensures grows { wides.old ≤ wides.new }
@@ -217,11 +201,11 @@ impl Basis {
     }
 
     // Goes on from the basis of the answer before where the working rows still stand so, else makes them anew, and preferred
-    // columns will enter first. None comes only where a fraction left its range.
+    // columns will enter first. None comes only where a number left its range.
     pub(crate) fn begin(
         &mut self,
         problem: &Problem<'_>,
-        working: &mut [Vec<Frac>],
+        working: &mut [WholeRow],
         wides: &mut Wides,
     ) -> Result<Option<()>, AllocError>
         ensures grows { wides.old ≤ wides.new }
@@ -239,81 +223,82 @@ impl Basis {
         Ok(self.aim_at(Aim::Meet, problem, working, wides))
     }
 
-    // Makes the reduced costs those of an aim. None comes only where a fraction left its range.
+    // Makes the reduced costs those of an aim. None comes only where a number left its range.
     fn aim_at(
         &mut self,
         aim: Aim,
         problem: &Problem<'_>,
-        working: &[Vec<Frac>],
+        working: &[WholeRow],
         wides: &mut Wides,
     ) -> Option<()>
         ensures grows { wides.old ≤ wides.new }
         ensures wide { IfNone result (Rose wides.old wides.new) }
     {
         self.aim = aim;
-        clear_cells(&mut self.reduced);
-        take_weights(
-            &mut self.reduced,
-            working,
-            &self.basics,
-            aim,
-            problem.costs,
-            wides,
-        )
+        self.reduced.fill_with_zeros();
+        for (place, row) in working.iter().enumerate() {
+            self.take_weight(problem, place, row, wides)?;
+        }
+        Some(())
+    }
+
+    // Takes a working row off the reduced costs, times what is basic there weighs. None comes only where a number left its range.
+    fn take_weight(
+        &mut self,
+        problem: &Problem<'_>,
+        place: usize,
+        row: &WholeRow,
+        wides: &mut Wides,
+    ) -> Option<()>
+        ensures grows { wides.old ≤ wides.new }
+        ensures wide { IfNone result (Rose wides.old wides.new) }
+    {
+        let basic = *self.basics.get(place).unwrap_or(&Basic::Slack(0));
+        let weight = weight_of(basic, self.aim, problem.costs);
+        if weight == 0 {
+            return Some(());
+        }
+        row.write_filled(&mut self.filled);
+        let cell = in_range(self.reduced.multiple(weight), wides)?;
+        self.reduced.subtract(row, &self.filled, cell, wides)
     }
 
     // Whether so many pivots moved nothing that the next ones go by the order of the variables.
     fn is_stuck(&self) -> bool {
-        self.idle >= self.scaled.len().saturating_mul(4).saturating_add(IDLE)
+        self.idle >= self.basics.len().saturating_mul(4).saturating_add(IDLE)
     }
 
     // What enters, if something does.
-    fn choose(&mut self, problem: &Problem<'_>, wides: &mut Wides) -> Choice
-        ensures grows { wides.old ≤ wides.new }
-        ensures wide { result ≡ Choice.Wide → Rose wides.old wides.new }
-    {
-        let count = self.scaled.len();
-        if self.reduced.len() < count {
-            return Choice::Nothing;
-        }
-        let Some(denominator) = scale_all(&self.reduced[..count], wides, &mut self.scaled) else {
-            return Choice::Wide;
-        };
-        turn_back(&mut self.scaled, problem.rows);
-        let stuck = self.is_stuck();
+    fn choose(&self, problem: &Problem<'_>) -> Option<Basic> {
         let pricing = Pricing {
-            scaled: &self.scaled,
+            reduced: &self.reduced,
             costs: if self.aim == Aim::Lessen {
                 problem.costs
             } else {
                 &[]
             },
-            denominator,
         };
         let preferred = if self.prefers { problem.likely } else { &[] };
-        match choose_entering(&pricing, problem, preferred, stuck) {
-            Some(basic) => Choice::Enters(basic),
-            None => Choice::Nothing,
-        }
+        choose_entering(&pricing, problem, preferred, self.is_stuck())
     }
 
-    // Writes the cells of a column, and its reduced cost. None comes only where a fraction left its range.
+    // Writes the cells of a column, and its reduced cost. None comes only where a number left its range.
     fn direct_along(
         &mut self,
-        problem: &Problem<'_>,
-        working: &[Vec<Frac>],
+        working: &[WholeRow],
         column: &[(u16, i64)],
         cost: i64,
         wides: &mut Wides,
     ) -> Option<()>
-        requires column { IsColumn (length problem.now.rows.now) column.now }
-        requires cost { IsSmall cost }
         ensures grows { wides.old ≤ wides.new }
         ensures wide { IfNone result (Rose wides.old wides.new) }
     {
-        fill_direction(&mut self.direction, working, problem, column, wides)?;
-        let own = turned(cost, false);
-        let reduced = combined(own, &self.reduced, problem.rows, column, wides)?;
+        fill_direction(&mut self.direction, working, column, wides)?;
+        let reduced = self
+            .reduced
+            .product(column)
+            .wrapping_add(self.reduced.multiple(cost));
+        let reduced = in_range(reduced, wides)?;
         if let Some(last) = self.direction.last_mut() {
             *last = reduced;
         }
@@ -324,7 +309,7 @@ impl Basis {
     fn direct(
         &mut self,
         problem: &Problem<'_>,
-        working: &[Vec<Frac>],
+        working: &[WholeRow],
         enters: Basic,
         wides: &mut Wides,
     ) -> Option<()>
@@ -334,43 +319,42 @@ impl Basis {
         match enters {
             Basic::Column(place) if place < problem.columns.len() => {
                 let cost = weight_of(enters, self.aim, problem.costs);
-                let column = problem.columns[place].as_slice();
-                self.direct_along(problem, working, column, cost, wides)
+                self.direct_along(working, problem.columns[place].as_slice(), cost, wides)
             }
-            Basic::Slack(row) if (row as usize) < problem.rows.len() => {
-                self.direct_along(problem, working, &[(row, 1)], 0, wides)
-            }
+            Basic::Slack(row) => self.direct_along(working, &[(row, 1)], 0, wides),
             _ => Some(()),
         }
     }
 
-    // Makes a unit column of the entering column by the row that was taken out. None comes only where a fraction left its
+    // Makes a unit column of the entering column by the row that was taken out. None comes only where a number left its
     // range.
-    fn eliminate(&mut self, working: &mut [Vec<Frac>], row: usize, wides: &mut Wides) -> Option<()>
+    fn eliminate(&mut self, working: &mut [WholeRow], row: usize, wides: &mut Wides) -> Option<()>
         ensures grows { wides.old ≤ wides.new }
         ensures wide { IfNone result (Rose wides.old wides.new) }
     {
-        let pivot = cell_at(&self.direction, row);
-        divide_row(&mut self.taken, &pivot, wides)?;
-        clear_column(working, &self.taken, &self.direction, wides)?;
-        let cost = right_side(&self.direction);
-        if cost.num() == 0 {
+        let pivot = self.direction.get(row).copied().unwrap_or(1);
+        self.taken.divide_by(pivot);
+        self.taken.write_filled(&mut self.filled);
+        clear_column(working, &self.taken, &self.filled, &self.direction, wides)?;
+        let cost = self.direction.last().copied().unwrap_or(0);
+        if cost == 0 {
             return Some(());
         }
-        subtract_multiple(&mut self.reduced, &self.taken, &cost, wides)
+        self.reduced
+            .subtract(&self.taken, &self.filled, cost, wides)
     }
 
     // Exchanges a working row with the row that was taken out.
-    fn exchange(&mut self, working: &mut [Vec<Frac>], row: usize) {
+    fn exchange(&mut self, working: &mut [WholeRow], row: usize) {
         if row < working.len() {
             mem::swap(&mut working[row], &mut self.taken);
         }
     }
 
-    // Lets what enters take the place of what is basic in a row. None comes only where a fraction left its range.
+    // Lets what enters take the place of what is basic in a row. None comes only where a number left its range.
     fn pivot(
         &mut self,
-        working: &mut [Vec<Frac>],
+        working: &mut [WholeRow],
         row: usize,
         enters: Basic,
         wides: &mut Wides,
@@ -391,7 +375,7 @@ impl Basis {
     fn enter(
         &mut self,
         problem: &Problem<'_>,
-        working: &mut [Vec<Frac>],
+        working: &mut [WholeRow],
         enters: Basic,
         wides: &mut Wides,
     ) -> Step
@@ -403,20 +387,17 @@ impl Basis {
         }
         let pinned = self.aim == Aim::Lessen;
         let stuck = self.is_stuck();
-        match leaving_row(working, &self.basics, &self.direction, pinned, stuck, wides) {
-            Leaving::Row(leaver) => {
-                self.idle = if leaver.ratio.num() == 0 {
-                    self.idle.saturating_add(1)
-                } else {
-                    0
-                };
-                match self.pivot(working, leaver.row, enters, wides) {
-                    Some(()) => Step::Moved,
-                    None => Step::Wide,
-                }
-            }
-            Leaving::Wide => Step::Wide,
-            Leaving::Unbounded => Step::Lost,
+        let Some(leaver) = leaving_row(working, &self.basics, &self.direction, pinned, stuck) else {
+            return Step::Lost;
+        };
+        self.idle = if leaver.right == 0 {
+            self.idle.saturating_add(1)
+        } else {
+            0
+        };
+        match self.pivot(working, leaver.row, enters, wides) {
+            Some(()) => Step::Moved,
+            None => Step::Wide,
         }
     }
 
@@ -424,13 +405,13 @@ impl Basis {
     pub(crate) fn step(
         &mut self,
         problem: &Problem<'_>,
-        working: &mut [Vec<Frac>],
+        working: &mut [WholeRow],
         wides: &mut Wides,
     ) -> Step
         ensures grows { wides.old ≤ wides.new }
         ensures wide { result ≡ Step.Wide → Rose wides.old wides.new }
     {
-        if self.aim == Aim::Meet && right_side(&self.reduced).num() == 0 {
+        if self.aim == Aim::Meet && self.reduced.right() == 0 {
             if problem.goal == Aim::Meet {
                 return Step::Meets;
             }
@@ -438,11 +419,10 @@ impl Basis {
                 return Step::Wide;
             }
         }
-        match self.choose(problem, wides) {
-            Choice::Enters(enters) => self.enter(problem, working, enters, wides),
-            Choice::Wide => Step::Wide,
-            Choice::Nothing if self.aim == Aim::Lessen => Step::Least,
-            Choice::Nothing => Step::Refutes,
+        match self.choose(problem) {
+            Some(enters) => self.enter(problem, working, enters, wides),
+            None if self.aim == Aim::Lessen => Step::Least,
+            None => Step::Refutes,
         }
     }
 

@@ -1,39 +1,36 @@
-//! The choice of what enters: by the reduced costs of the unit columns, brought to whole numbers over one denominator.
+//! The choice of what enters: by the reduced costs, which are whole numbers over one denominator.
 
 use crate::check::term;
 use crate::given::Sense;
 use crate::problem::Problem;
 use crate::search::basic::Basic;
+use crate::search::whole_row::WholeRow;
 
-// The reduced costs of the rows' unit columns, in whole numbers, and what the columns themselves cost in them.
+// The reduced costs of the rows' unit columns, and what the columns themselves cost.
 #[derive(Clone, Copy)]
 pub(crate) struct Pricing<'a> {
-    pub(crate) scaled: &'a [i64],
+    pub(crate) reduced: &'a WholeRow,
 
     // The costs of the columns, or none where they don't count.
     pub(crate) costs: &'a [i64],
-    pub(crate) denominator: i64,
 }
 
-// What enters, with its reduced cost, which is below 0.
+// What enters, with its reduced cost over the denominator, which is below 0.
 #[derive(Clone, Copy)]
 struct Entering {
     basic: Basic,
     cost: i128,
 }
 
-// The reduced cost of a column.
-fn reduced_cost(pricing: &Pricing<'_>, place: usize, column: &[(u16, i64)]) -> i128 {
-    let mut total = match pricing.costs.get(place) {
-        Some(cost) => term(*cost, pricing.denominator),
-        None => 0,
-    };
-    for (row, entry) in column {
-        if let Some(number) = pricing.scaled.get(*row as usize) {
-            total = total.wrapping_add(term(*number, *entry));
+impl Pricing<'_> {
+    // The reduced cost of a column over the denominator.
+    fn cost_of(&self, place: usize, column: &[(u16, i64)]) -> i128 {
+        let product = self.reduced.product(column);
+        match self.costs.get(place) {
+            Some(cost) => product.wrapping_add(self.reduced.multiple(*cost)),
+            None => product,
         }
     }
-    total
 }
 
 // The lesser of the best so far and a candidate, if the candidate's cost is below 0.
@@ -53,7 +50,7 @@ fn least_among(pricing: &Pricing<'_>, problem: &Problem<'_>, places: &[usize]) -
     let mut best = None;
     for &place in places {
         if let Some(column) = problem.columns.get(place) {
-            let cost = reduced_cost(pricing, place, column.as_slice());
+            let cost = pricing.cost_of(place, column.as_slice());
             best = lesser(best, Basic::Column(place), cost);
         }
     }
@@ -64,7 +61,7 @@ fn least_among(pricing: &Pricing<'_>, problem: &Problem<'_>, places: &[usize]) -
 fn least_column(pricing: &Pricing<'_>, problem: &Problem<'_>, first: bool) -> Option<Entering> {
     let mut best = None;
     for (place, column) in problem.columns.iter().enumerate() {
-        let cost = reduced_cost(pricing, place, column.as_slice());
+        let cost = pricing.cost_of(place, column.as_slice());
         best = lesser(best, Basic::Column(place), cost);
         if first && best.is_some() {
             return best;
@@ -86,7 +83,7 @@ fn least_slack(
             return best;
         }
         if row.0 == Sense::AtMost && i <= 65535 {
-            if let Some(number) = pricing.scaled.get(i) {
+            if let Some(number) = pricing.reduced.numbers().get(i) {
                 best = lesser(best, Basic::Slack(i as u16), *number as i128);
             }
         }
@@ -109,13 +106,4 @@ pub(crate) fn choose_entering(
     }
     let column = least_column(pricing, problem, first);
     least_slack(pricing, problem, first, column).map(|found| found.basic)
-}
-
-// Turns the signs of the rows that stand turned.
-pub(crate) fn turn_back(scaled: &mut [i64], rows: &[(Sense, i64)]) {
-    for (number, row) in scaled.iter_mut().zip(rows) {
-        if row.1 < 0 {
-            *number = number.wrapping_neg();
-        }
-    }
 }

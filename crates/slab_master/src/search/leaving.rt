@@ -1,109 +1,95 @@
 //! The choice of the row that leaves: the one that bounds the entering column most.
 
-ghost use Rattle.std.specs.Prelude.{ℕ, ◌≡◌, ◌≢◌, ◌≤◌, pos, IsTrue};
-ghost use Rattle.slab_counter.specs.Counter.{Rose};
-
+use crate::check::term;
 use crate::search::basic::Basic;
-use crate::search::cells::{cell_at, right_side};
-use slab_frac::{Frac, Wides};
+use crate::search::whole_row::WholeRow;
 use std::cmp::Ordering;
 
-// A row that may leave the basis.
+// A row that may leave the basis. The entering column can grow to `right / cell`.
 #[derive(Clone, Copy)]
 pub(crate) struct Leaver {
     pub(crate) row: usize,
 
-    // How far the entering column can grow.
-    pub(crate) ratio: Frac,
+    // The right side over the row's denominator.
+    pub(crate) right: i64,
 
-    /// How many cells of the row aren't 0, where that counts.
+    // The entering column's cell over it, above 0.
+    cell: i64,
+
+    // How many numbers of the row aren't 0, where that counts.
     filled: usize,
 
-    /// What is basic in the row.
+    // What is basic in the row.
     basic: Basic,
 }
 
-// What bounds the entering column.
-pub(crate) enum Leaving {
-    Row(Leaver),
-    Wide,
-    Unbounded,
-}
-
-// How many cells aren't 0.
-fn count_filled(cells: &[Frac]) -> usize {
-    cells.iter().filter(|cell| cell.num() != 0).count()
-}
-
-// Whether a row of this ratio may leave before the best one so far.
-fn may_leave(ratio: &Frac, best: &Option<Leaver>) -> bool {
-    match best {
-        None => true,
-        Some(best) => ratio.cmp(&best.ratio) != Ordering::Greater,
+impl Leaver {
+    // How far the two let the entering column grow, compared by products.
+    fn compare(&self, other: &Leaver) -> Ordering {
+        term(self.right, other.cell).cmp(&term(other.right, self.cell))
     }
-}
 
-// Whether a candidate leaves before the best one so far: by its ratio, then by how few of its cells are filled, so that the
-// rows stay sparse, then by what is basic.
-fn leaves_before(candidate: &Leaver, best: &Option<Leaver>) -> bool {
-    match best {
-        None => true,
-        Some(best) if candidate.ratio != best.ratio => {
-            candidate.ratio.cmp(&best.ratio) == Ordering::Less
+    // Whether this row leaves before the best one so far: by its ratio, then by how few of its numbers are filled, so that the
+    // rows stay sparse, then by what is basic.
+    fn leaves_before(&self, best: &Leaver) -> bool {
+        match self.compare(best) {
+            Ordering::Less => true,
+            Ordering::Greater => false,
+            Ordering::Equal if self.filled != best.filled => self.filled < best.filled,
+            Ordering::Equal => self.basic < best.basic,
         }
-        Some(best) if candidate.filled != best.filled => candidate.filled < best.filled,
-        Some(best) => candidate.basic < best.basic,
     }
 }
 
-// Whether a row with this cell in the entering column bounds it. An artificial variable that has to stay 0 bounds it also
+// A row with its cell in the entering column, if it bounds that column. An artificial variable that has to stay 0 bounds it also
 // from above.
-fn bounds(cell: &Frac, basic: Basic, pinned: bool) -> bool
-    ensures { IsTrue result → cell.now.num ≢ pos 0 }
-{
-    cell.num() > 0 || (pinned && basic == Basic::Artificial && cell.num() < 0)
+fn candidate(row: usize, right: i64, cell: i64, basic: Basic, pinned: bool) -> Option<Leaver> {
+    let turned = cell < 0 && pinned && basic == Basic::Artificial;
+    if cell <= 0 && !turned {
+        return None;
+    }
+    Some(Leaver {
+        row,
+        right: if turned { right.wrapping_neg() } else { right },
+        cell: if turned { cell.wrapping_neg() } else { cell },
+        filled: 0,
+        basic,
+    })
 }
 
-// The row that leaves. Artificial variables that are `pinned` stay 0. Where the search is `stuck`, filled cells don't count.
+// The better of the best so far and a candidate. Where the search is `stuck`, filled numbers don't count.
+fn better(best: Option<Leaver>, candidate: Leaver, cells: &WholeRow, stuck: bool) -> Leaver {
+    let mut candidate = candidate;
+    if let Some(best) = best {
+        if candidate.compare(&best) == Ordering::Greater {
+            return best;
+        }
+    }
+    if !stuck {
+        candidate.filled = cells.count_filled();
+    }
+    match best {
+        Some(best) if !candidate.leaves_before(&best) => best,
+        _ => candidate,
+    }
+}
+
+// The row that leaves, if one bounds the entering column. Artificial variables that are `pinned` stay 0. Where the search is
+// `stuck`, filled numbers don't count.
 pub(crate) fn leaving_row(
-    rows: &[Vec<Frac>],
+    rows: &[WholeRow],
     basis: &[Basic],
-    direction: &[Frac],
+    direction: &[i64],
     pinned: bool,
     stuck: bool,
-    wides: &mut Wides,
-) -> Leaving
-    ensures grows { wides.old ≤ wides.new }
-    ensures wide { result ≡ Leaving.Wide → Rose wides.old wides.new }
-{
+) -> Option<Leaver> {
     let mut best = None;
     for (row, cells) in rows.iter().enumerate() {
-        let cell = cell_at(direction, row);
+        let cell = direction.get(row).copied().unwrap_or(0);
         let basic = *basis.get(row).unwrap_or(&Basic::Artificial);
-        if bounds(&cell, basic, pinned) {
-            let Some(ratio) = right_side(cells.as_slice()).div(&cell, wides) else {
-                return Leaving::Wide;
-            };
-            if may_leave(&ratio, &best) {
-                let filled = if stuck {
-                    0
-                } else {
-                    count_filled(cells.as_slice())
-                };
-                let candidate = Leaver {
-                    row,
-                    ratio,
-                    filled,
-                    basic,
-                };
-                if leaves_before(&candidate, &best) {
-                    best = Some(candidate);
-                }
-            }
+        if let Some(found) = candidate(row, cells.right(), cell, basic, pinned) {
+            best = Some(better(best, found, cells, stuck));
         }
     }
-    match best {
-        Some(leaver) => Leaving::Row(leaver),
-        None => Leaving::Unbounded,
-    }
+    best
 }

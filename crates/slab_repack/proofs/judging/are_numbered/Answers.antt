@@ -1,4 +1,4 @@
-use Rattle.std.proofs.Common.{ℕ, List, [], ◌∷◌, ◌++◌, take, sym, subst}
+use Rattle.std.proofs.Common.{ℕ, List, take, sym, subst}
 use Rattle.std.proofs.lemmas.Bool.{false≢true, le-leb, leb-true}
 use Rattle.std.proofs.lemmas.List.{take_all, take_more}
 use Rattle.slab_repack.specs.FoundPlans.{AreNumberedSoFar}

@@ -1,7 +1,7 @@
 use Rattle.std.proofs.Common.{◌≡◌}
 use Rattle.std.specs.List.{find}
-use Rattle.slab_start.specs.Slabs.{empty, takes}
-use Rattle.slab_start.specs.FirstFit.{free_kinds}
+use Rattle.slab_filling.specs.Slabs.{empty, takes}
+use Rattle.slab_filling.specs.Placing.{free_kinds}
 use Rattle.slab_start.proofs.Opening.{surplus_from}
 use Rattle.slab_start.proofs.filling.surplus_to_open.Given as goal
 

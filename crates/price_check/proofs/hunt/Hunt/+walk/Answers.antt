@@ -1,15 +1,12 @@
-use Rattle.std.proofs.Common.{rules, ◌≡◌, ◌⊎◌, ℕ, ◌+◌, ◌-◌, ◌^◌, ◌<◌, ◌≤◌, pos, List, [], ◌∷◌, ◌++◌, length, get_or, ap, sym, subst, ◌∙◌, arith, to_z, of_z}
+use Rattle.std.proofs.Common.{rules, ◌≡◌, ℕ, ◌+◌, ◌-◌, ◌^◌, ◌<◌, ◌≤◌, pos, List, [], ◌∷◌, ◌++◌, length, get_or, ap, sym, subst, ◌∙◌, arith, to_z, of_z}
 use Rattle.std.specs.Prelude.{◌-ℤ◌, unsigned_abs}
 use Rattle.std.specs.Int.{w128}
 use Rattle.std.proofs.lemmas.Int.{ints}
 use Rattle.std.proofs.lemmas.List.{get_or_default}
-use Rattle.mill_model.specs.Columns.{Column}
 use Rattle.pricing_laws.specs.Parts.{left_of}
-use Rattle.pricing_laws.specs.Problems.{IsAllowed, ExceedAtMost}
-use Rattle.pricing_laws.proofs.Choices.{choice_step}
+use Rattle.pricing_laws.specs.Problems.{ExceedAtMost}
 use Rattle.pricing_laws.proofs.Parts.{popped}
 use Rattle.pricing_laws.proofs.Tables.{most_weaker}
-use Rattle.price_check.specs.declared.hunt.Hunt.{Hunt}
 use Rattle.price_check.specs.Finds.{IsAnswer}
 use Rattle.pricing_laws.specs.Hunts.{AreTakenIn, IsChoiceIn, IsChoiceWith, IsMostIn}
 use Rattle.price_check.specs.Leaves.{problem_of}

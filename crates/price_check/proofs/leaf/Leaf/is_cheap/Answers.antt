@@ -1,8 +1,7 @@
-use Rattle.std.proofs.Common.{◌≡◌, ◌+◌, ◌-◌, ◌*◌, ◌<◌, ◌≤◌, ℤ, pos, ◌+ℤ◌, ◌^◌, ℕ, List, length, sym, subst, ap, arith, to_z, of_z}
+use Rattle.std.proofs.Common.{◌≡◌, ◌+◌, ◌-◌, ◌*◌, ◌<◌, ◌≤◌, pos, ◌+ℤ◌, ◌^◌, ℕ, List, length, sym, subst, ap, arith, to_z, of_z}
 use Rattle.std.specs.Prelude.{unsigned_abs}
 use Rattle.std.specs.Int.{w128}
 use Rattle.std.proofs.lemmas.Int.{ints}
-use Rattle.mill_model.specs.Prices.{most_price}
 use Rattle.mill_model.specs.declared.order.Order.{Order}
 use Rattle.price_check.proofs.CheapOrders.{AreWorthAtMost, worth_more, worth_none}
 use Rattle.price_check.proofs.leaf.Leaf.is_cheap.Goals as goal

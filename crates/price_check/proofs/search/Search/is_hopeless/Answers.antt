@@ -1,10 +1,9 @@
-use Rattle.std.proofs.Common.{◌≡◌, ℕ, ◌*◌, ◌^◌, ◌≤◌, ℤ, pos, ◌+ℤ◌, ◌*ℤ◌, ◌≤ℤ◌, true, arith, to_z, of_z}
+use Rattle.std.proofs.Common.{◌≡◌, ◌*◌, ◌^◌, ◌≤◌, ℤ, pos, ◌+ℤ◌, ◌*ℤ◌, ◌≤ℤ◌, true, arith, to_z, of_z}
 use Rattle.std.specs.Prelude.{◌-ℤ◌, unsigned_abs}
 use Rattle.std.specs.Int.{w128}
 use lib.Signed.{le_z}
 use Rattle.std.proofs.lemmas.Bool.{OnTrue_from}
-use Rattle.std.proofs.lemmas.Int.{ints, unsigned_abs-mul}
-use Rattle.std.proofs.lemmas.Nat.{mul-le}
+use Rattle.std.proofs.lemmas.Int.{ints}
 use Rattle.pricing_laws.proofs.Numbers.{le_true}
 use Rattle.pricing_laws.proofs.Products.{few_small, product_back}
 use Rattle.pricing_laws.specs.Problems.{ExceedAtMost}

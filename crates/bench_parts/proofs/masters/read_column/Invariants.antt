@@ -1,5 +1,0 @@
-use Rattle.slab_master.specs.Given.{IsColumn}
-use Rattle.bench_parts.proofs.masters.read_column.Given as goal
-
-abbrev pub invariant-entries : goal.invariant-entries
-invariant-entries l = IsColumn l.rows l.entries.items

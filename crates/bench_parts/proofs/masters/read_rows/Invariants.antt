@@ -1,5 +1,0 @@
-use Rattle.slab_master.specs.Given.{AreRows}
-use Rattle.bench_parts.proofs.masters.read_rows.Given as goal
-
-abbrev pub invariant-rows : goal.invariant-rows
-invariant-rows l = AreRows l.rows.items

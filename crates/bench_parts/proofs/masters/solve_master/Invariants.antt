@@ -1,5 +1,0 @@
-use Rattle.std.proofs.Common.{◌≡◌, length}
-use Rattle.bench_parts.proofs.masters.solve_master.Given as goal
-
-abbrev pub invariant-steps : goal.invariant-steps
-invariant-steps l = length l.master.rows ≡ l.count

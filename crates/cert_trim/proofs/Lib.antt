@@ -1,0 +1,4 @@
+mod Walking
+mod Moves
+mod Keeping
+mod Certified

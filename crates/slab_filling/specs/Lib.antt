@@ -1,0 +1,4 @@
+pub mod Lists
+pub mod Slabs
+pub mod Placing
+pub mod Closing

@@ -1,8 +1,0 @@
-use Rattle.std.proofs.Common.{◌≡◌, false, take}
-use Rattle.std.specs.List.{list_any}
-use Rattle.mill_model.specs.Columns.{is_old as is_surplus}
-use Rattle.slab_start.specs.FirstFit.{kinds_of}
-use Rattle.slab_start.proofs.filling.is_open.Given as goal
-
-abbrev pub invariant-loop-slab : goal.invariant-loop-slab
-invariant-loop-slab l = list_any (is_surplus l.surplus) (kinds_of (take l.slab-index l.slabs)) ≡ false
