@@ -4,3 +4,4 @@ pub mod OptionSteps
 pub mod Pieces
 pub mod Once
 pub mod Failing
+pub mod Opening

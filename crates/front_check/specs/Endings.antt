@@ -26,11 +26,11 @@ use Rattle.front_check.specs.Owed.{IsVerdictStatus, StopsSoon}
 abbrev pub HasVerdict : Mill → List ℕ → Verdict → Files → Type 0
 HasVerdict m name verdict files = (bytes : List ℕ) × (get files name ≡ Some bytes) × IsVerdict m bytes verdict
 
--- the file is there, and its reading stopped at the first bad line
+-- the file is there, and its reading stopped at the first bad line or at the end
 abbrev pub ReadsToBad : Mill → List ℕ → Told → Told → Type 0
 ReadsToBad m name old new = (bytes : List ℕ) × HasFile name bytes old × StopsSoon m bytes new.left
 
--- words that can't stand open no file; else, after a verdict, the reading of the certificate stopped at the first bad line
+-- words that can't stand open no file; else, after a verdict, the reading of the certificate stopped at the first bad line or at the end
 abbrev pub LeavesRest : Parsed CheckWords → ℕ → Told → Told → Type 0
 LeavesRest (Err number) status old new = new.left ≡ old.left
 LeavesRest (Ok words) status old new = IsVerdictStatus status → (m : Mill) × HasMill words.mill m old.files × ReadsToBad m words.cert old new

@@ -5,3 +5,4 @@ pub mod Outcomes
 pub mod Owed
 pub mod Endings
 pub mod Laws
+pub mod Opens

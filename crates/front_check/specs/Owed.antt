@@ -1,5 +1,5 @@
 -- What a check owes: a status and a text, by its words and the files.
-use Rattle.std.specs.Prelude.{◌≡◌, ◌⊎◌, ℕ, ◌≤◌, nat_lt, List, ◌++◌, length, Option, Some, None, Result, Ok, Err, MatchOption, MatchResult}
+use Rattle.std.specs.Prelude.{◌≡◌, ◌⊎◌, ℕ, ◌≤◌, nat_lt, List, [], ◌++◌, length, Option, Some, None, Result, Ok, Err, MatchOption, MatchResult}
 use Rattle.std.specs.Bool.{MatchBool}
 use Rattle.std.specs.FinMap.{get}
 use Rattle.slab_desk.specs.Desk.{Files}
@@ -122,7 +122,9 @@ MayEnd (Ok words) status = (status ≡ 2) ⊎ IsVerdictStatus status
 abbrev pub most_piece : ℕ
 most_piece = 8192
 
--- Reading stopped at the first bad line: what was read of these bytes has none but in its last piece. The rest is left.
+-- Reading stopped at the first bad line, or at the end: what was read of these bytes has none but in its last piece, and has one
+-- there where something is left.
 abbrev pub StopsSoon : Mill → List ℕ → List ℕ → Type 0
 StopsSoon m bytes left =
-    (earlier piece : List ℕ) × (bytes ≡ earlier ++ (piece ++ left)) × (length piece ≤ most_piece) × (HasBadLine All m earlier → ⊥)
+    (earlier piece : List ℕ) × (bytes ≡ earlier ++ (piece ++ left)) × (length piece ≤ most_piece)
+    × (HasBadLine All m earlier → ⊥) × ((left ≡ []) ⊎ HasBadLine All m (earlier ++ piece))

@@ -1,13 +1,16 @@
 // The order file and the yard file, read one after another.
 ghost use Rattle.std.specs.Prelude.{◌≡◌, ◌≤◌, length, IfOk};
 ghost use Rattle.slab_desk.specs.Desk.{WhereTold, HasFile};
+ghost use Rattle.slab_desk.specs.Names.{with_opened};
 ghost use Rattle.mill_model.specs.Mill.{IsBetween, AreBarsAmong, most_colour_limit};
 ghost use Rattle.mill_read.specs.OrderFile.{order_file};
 ghost use Rattle.mill_read.specs.YardFile.{yard_file};
 ghost use Rattle.run_words.specs.Words.{named_mill};
 ghost use Rattle.run_words.specs.Files.{most_bytes, HasValue, HasMill};
+ghost use Rattle.run_words.specs.Opens.{HasOpened};
 ghost use Rattle.front_check.specs.Owed.{Nothing, OwesOfFile, OwesOfMill};
 ghost use Rattle.front_check.specs.Endings.{HasOnlyRead, is_fault, IsStop, IsTooLong, IsRefusal};
+ghost use Rattle.front_check.specs.Opens.{IsMillOpened};
 
 use crate::ending::Stop;
 use crate::texts::{Source, fault_text, long_text};
@@ -31,6 +34,8 @@ pub fn read_mill<D: Desk>(
     ensures reads { HasOnlyRead (IsStop (λ files. OwesOfMill Nothing files (named_mill orders.entry yard.entry colours)))
         (D.told desk.old) (D.told desk.new) (D.faults desk.old) (D.faults desk.new) result }
     ensures stopped { D.stopped desk.new ≡ is_fault result }
+    ensures named { HasOpened (IsMillOpened (named_mill orders.entry yard.entry colours) (D.told desk.old) result)
+        (D.named desk.old) (D.named desk.new) }
 {
     let mut mill = bare_mill(alloc, desk, orders)?;
     if let Some(name) = yard {
@@ -47,6 +52,7 @@ fn bare_mill<D: Desk>(alloc: Global, desk: &mut D, name: &str) -> Result<Mill, S
     ensures reads { HasOnlyRead (IsStop (λ files. OwesOfFile Source.Orders order_file Nothing files name.now))
         (D.told desk.old) (D.told desk.new) (D.faults desk.old) (D.faults desk.new) result }
     ensures stopped { D.stopped desk.new ≡ is_fault result }
+    ensures named { D.named desk.new ≡ with_opened name.now (D.named desk.old) }
 {
     let bytes = bytes_in(alloc, desk, Source::Orders, name)?;
     match read_orders(alloc, &bytes) {
@@ -62,6 +68,7 @@ fn yard_in<D: Desk>(alloc: Global, desk: &mut D, mill: &Mill, name: &str) -> Res
     ensures reads { HasOnlyRead (IsStop (λ files. OwesOfFile Source.Yard (yard_file (length mill.now.orders)) Nothing files name.now))
         (D.told desk.old) (D.told desk.new) (D.faults desk.old) (D.faults desk.new) result }
     ensures stopped { D.stopped desk.new ≡ is_fault result }
+    ensures named { D.named desk.new ≡ with_opened name.now (D.named desk.old) }
 {
     let bytes = bytes_in(alloc, desk, Source::Yard, name)?;
     match read_yard(alloc, mill, &bytes) {
@@ -82,6 +89,7 @@ fn bytes_in<D: Desk>(
     ensures reads { HasOnlyRead (IsTooLong source name.now)
         (D.told desk.old) (D.told desk.new) (D.faults desk.old) (D.faults desk.new) result }
     ensures stopped { D.stopped desk.new ≡ is_fault result }
+    ensures named { D.named desk.new ≡ with_opened name.now (D.named desk.old) }
 {
     match read_all(alloc, desk, name, MOST_BYTES) {
         Ok(bytes) => Ok(bytes),

@@ -6,11 +6,13 @@ ghost use Rattle.slab_desk.specs.Desk.{Steps};
 ghost use Rattle.mill_model.specs.Mill.{IsBetween, most_colour_limit};
 ghost use Rattle.run_words.specs.Texts.{usage_text as usage_line};
 ghost use Rattle.run_words.specs.Ends.{EndsByFaults};
+ghost use Rattle.run_words.specs.Opens.{HasOpened};
 ghost use Rattle.front_check.specs.Jobs.{words_of, named_check, IsInRange};
 ghost use Rattle.front_check.specs.Words.{check_words};
 ghost use Rattle.front_check.specs.Outcomes.{Ran};
 ghost use Rattle.front_check.specs.Owed.{Owes, OwesOfCheck, Exactly, MayEnd, IsVerdictStatus};
 ghost use Rattle.front_check.specs.Endings.{HasOnlyRead, Finishes, IsEnding, IsStop, is_fault, LeavesRest};
+ghost use Rattle.front_check.specs.Opens.{OpensInOrder, IsOpenedFor};
 
 use crate::ending::{Ending, Stop};
 use crate::files::read_mill;
@@ -49,6 +51,8 @@ pub fn check_run<D: Desk>(alloc: Global, words: &[String], desk: &mut D) -> u8
     ensures stopped { (result ≡ 5) ↔ IsTrue (D.stopped desk.new) }
     ensures kept { result ≢ 5 → D.faults desk.new ≡ D.faults desk.old }
     ensures rose { D.faults desk.old < last_count → ((result ≡ 5) ↔ (D.faults desk.old < D.faults desk.new)) }
+    ensures opens { HasOpened (OpensInOrder (check_words (map string_bytes words.now)) (D.told desk.old) result)
+        (D.named desk.old) (D.named desk.new) }
 {
     let job = match read_check_words(words) {
         Ok(job) => job,
@@ -68,6 +72,7 @@ fn refuse<D: Desk>(alloc: Global, usage: CheckUsage, desk: &mut D) -> u8
     ensures status { (result ≡ 1) ⊎ ((result ≡ 5) ⊎ (result ≡ 6)) }
     ensures unread { Steps (D.told desk.old) (D.told desk.new) (λ old new. new.left ≡ old.left) }
     ensures ends { EndsByFaults (D.faults desk.old) (D.faults desk.new) (D.stopped desk.new) result }
+    ensures named { D.named desk.new ≡ D.named desk.old }
 {
     match usage_text(alloc, usage) {
         Ok(text) => say(desk, 1, text.as_str()),
@@ -84,6 +89,7 @@ fn answer<D: Desk>(alloc: Global, job: CheckJob<'_>, desk: &mut D) -> Result<End
     ensures reads { HasOnlyRead (IsStop (OwesOfCheck (words_of job.entry)))
         (D.told desk.old) (D.told desk.new) (D.faults desk.old) (D.faults desk.new) result }
     ensures stopped { D.stopped desk.new ≡ is_fault result }
+    ensures named { HasOpened (IsOpenedFor (words_of job.entry) (D.told desk.old) result) (D.named desk.old) (D.named desk.new) }
 {
     match job {
         CheckJob::Check {
@@ -112,6 +118,8 @@ fn checked<D: Desk>(
     ensures reads { HasOnlyRead (IsStop (OwesOfCheck (named_check orders.entry cert.entry yard.entry colours)))
         (D.told desk.old) (D.told desk.new) (D.faults desk.old) (D.faults desk.new) result }
     ensures stopped { D.stopped desk.new ≡ is_fault result }
+    ensures named { HasOpened (IsOpenedFor (named_check orders.entry cert.entry yard.entry colours) (D.told desk.old) result)
+        (D.named desk.old) (D.named desk.new) }
 {
     let mill = read_mill(alloc, desk, orders, yard, colours)?;
     let verdict = read_certificate(alloc, desk, &mill, cert)?;
@@ -125,6 +133,7 @@ fn say<D: Desk>(desk: &mut D, status: u8, text: &str) -> u8
     requires calls { (D.stopped desk.old ≡ false) ⊎ (0 < length text.now) }
     ensures finishes { Finishes status text.now (D.told desk.old) (D.told desk.new) result }
     ensures ends { EndsByFaults (D.faults desk.old) (D.faults desk.new) (D.stopped desk.new) result }
+    ensures named { D.named desk.new ≡ D.named desk.old }
 {
     match say_all(desk, text.as_bytes()) {
         Ok(()) => status,

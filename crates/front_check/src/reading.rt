@@ -1,6 +1,7 @@
 // A certificate, read in pieces until a line is bad.
 ghost use Rattle.std.specs.Prelude.{◌≡◌, IfOk, OnOk};
 ghost use Rattle.slab_desk.specs.Desk.{WhereTold, Steps};
+ghost use Rattle.slab_desk.specs.Names.{with_opened};
 ghost use Rattle.cert_check.specs.Verdicts.{said_of};
 ghost use Rattle.front_check.specs.Owed.{Nothing};
 ghost use Rattle.front_check.specs.Endings.{HasOnlyRead, is_fault, HasVerdict, ReadsToBad, IsStop};
@@ -27,6 +28,7 @@ pub fn read_certificate<D: Desk>(
     ensures reads { HasOnlyRead (IsStop Nothing)
         (D.told desk.old) (D.told desk.new) (D.faults desk.old) (D.faults desk.new) result }
     ensures stopped { D.stopped desk.new ≡ is_fault result }
+    ensures named { D.named desk.new ≡ with_opened name.now (D.named desk.old) }
 {
     // Its readers tell that a mill is within its limits.
     let _within_limits = mill.colours();

@@ -2,3 +2,4 @@ pub mod Words
 pub mod Texts
 pub mod Files
 pub mod Ends
+pub mod Opens

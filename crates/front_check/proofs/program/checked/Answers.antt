@@ -1,4 +1,4 @@
-use Rattle.std.proofs.Common.{List, ℕ, string_bytes}
+use Rattle.std.proofs.Common.{List, ℕ, [], ◌∷◌, ◌++◌, ap, string_bytes}
 use Rattle.cert_check.specs.Verdicts.{said_of}
 use Rattle.run_words.specs.Files.{HasMill}
 use Rattle.run_words.proofs.Telling.{told_before, told_both}
@@ -7,6 +7,7 @@ use Rattle.front_check.specs.Jobs.{named_check}
 use Rattle.front_check.specs.Owed.{OwesOfCheck}
 use Rattle.front_check.specs.Endings.{HasVerdict}
 use Rattle.front_check.proofs.Owing.{owes_check}
+use Rattle.run_words.proofs.Opening.{opened_then, opens_one_more}
 use Rattle.front_check.proofs.Ends.{rest_read}
 use Rattle.front_check.proofs.program.checked.Goals as goal
 
@@ -28,3 +29,11 @@ returns-clause-rest g c =
     let words : CheckWords = named_check c.args.orders c.args.cert c.args.yard c.args.colours in
     rest_read words c.in_ok-mill.mill c.in_ok-said.field-0.status (g.D.Desk.told c.args.desk.now) (g.D.Desk.told c.read_mill.new.desk) _
     c.in_ok-mill.ensures.mill c.in_ok-mill.ensures.reads.left c.in_ok-verdict.ensures.soon
+
+pub returns-clause-named : goal.returns-clause-named
+returns-clause-named g c =
+    let words : CheckWords = named_check c.args.orders c.args.cert c.args.yard c.args.colours in
+    opened_then c.args.cert.now _ _ _ c.in_ok-mill.ensures.named c.in_ok-verdict.ensures.named (λ opened is. record {
+      order = opens_one_more words.mill c.args.cert.now c.in_ok-mill.mill (g.D.Desk.told c.args.desk.now) opened c.in_ok-mill.ensures.mill is;
+      all = ap (λ (names : List (List ℕ)). names ++ c.args.cert.now ∷ []) is;
+    })

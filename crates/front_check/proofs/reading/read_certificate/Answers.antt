@@ -13,6 +13,7 @@ pieces-init g c = record {
   within = c.colours-within_limits.ensures.limits;
   kept = c.in_ok-open_file.ensures.cause.kept;
   stopped = c.in_ok-open_file.ensures.stopped;
+  named = c.in_ok-open_file.ensures.named;
 }
 
 pub pieces-preserved : goal.pieces-preserved
@@ -25,6 +26,7 @@ pieces-preserved g c =
       within = c.pieces.invariant.within;
       kept = c.in_ok-count.ensures.cause.kept ∙ c.pieces.invariant.kept;
       stopped = c.in_ok-count.ensures.stopped;
+      named = c.in_ok-count.ensures.named ∙ c.pieces.invariant.named;
     }
 
 pub pieces-smaller : goal.pieces-smaller
@@ -38,7 +40,9 @@ returns-then-failed-clause-verdict g c =
     (is_bad _ _ c.failed.result c.failed.ensures.exact c.if-failed.true fed.stands) (c.end.ensures.verdict _ fed.stands)
 
 pub returns-then-failed-clause-soon : goal.returns-then-failed-clause-soon
-returns-then-failed-clause-soon g c = stops_soon _ c.args.mill.now c.args.name.now _ _ c.pieces.invariant.mill c.pieces.invariant.fed
+returns-then-failed-clause-soon g c =
+    let fed = c.pieces.invariant.fed in
+    stops_soon _ c.args.mill.now c.args.name.now _ _ c.pieces.invariant.mill fed (is_bad _ _ c.failed.result c.failed.ensures.exact c.if-failed.true fed.stands)
 
 pub returns-then-count-eq0-clause-verdict : goal.returns-then-count-eq0-clause-verdict
 returns-then-count-eq0-clause-verdict g c =
