@@ -1,11 +1,10 @@
 -- Which files a run asked its desk to open and to create, from its parts.
-use Rattle.std.proofs.Common.{◌≡◌, ◌⊎◌, inl, inr, ℕ, List, [], ◌∷◌, ◌++◌, Option, Some, None, Result, Ok, Err, IsErr, refl, sym, ap, ◌∙◌, subst, append_assoc, append-nil}
-use Rattle.slab_desk.specs.Desk.{Told, Files, WhereTold}
-use Rattle.slab_desk.specs.Names.{Names, with_opened, with_created}
-use Rattle.mill_model.specs.Mill.{Mill}
-use Rattle.run_words.specs.Words.{MillWords, Parsed}
-use Rattle.run_words.specs.Files.{HasMill}
-use Rattle.run_words.proofs.Telling.{told_each}
+use Rattle.std.proofs.Common.{◌≡◌, ◌⊎◌, inl, inr, ℕ, List, [], ◌∷◌, ◌++◌, Option, Result, Ok, Err, refl, sym, ap, ◌∙◌, subst, append-nil}
+use Rattle.slab_desk.specs.Desk.{Told}
+use Rattle.slab_desk.specs.Names.{Names, with_created}
+use Rattle.run_words.specs.Words.{Parsed}
+use Rattle.run_words.specs.Opens.{HasOpened}
+use Rattle.run_words.proofs.Opening.{opened_none}
 use Rattle.slab_front.specs.declared.ending.Answer.{Answer}
 use Rattle.slab_front.specs.declared.ending.Answer.TheVariants.{Text, Stored, SummedUp}
 use Rattle.slab_front.specs.declared.ending.Stop.{Stop}
@@ -16,48 +15,7 @@ use Rattle.slab_front.specs.Words.Command.{Solves, Resumes, Judges, Makes}
 use Rattle.slab_front.specs.Searched.{Searched, status_of, status_with, word_of}
 use Rattle.slab_front.specs.Owed.{IsSearchStatus}
 use Rattle.slab_front.specs.Endings.{status_for}
-use Rattle.slab_front.specs.Opens.{HasOrders, HasSomeMill, OpensMill, OpensOneMore, OpensInOrder, MayCreate, with_names, AsksInOrder, HasOpened, IsMillOpened, MayStore, IsOpenedFor, names_for, mill_files}
-
--- ---- names
-
-pub opened_one : {P : List (List ℕ) → Type 0} (name : List ℕ) (old new : Names) → new ≡ with_opened name old → P (name ∷ []) → HasOpened P old new
-opened_one name old new is holds = record { opened = name ∷ []; asked = is; holds = holds }
-
-pub opened_none : {P : List (List ℕ) → Type 0} (old : Names) → P [] → HasOpened P old old
-opened_none old holds = record { opened = []; asked = ap (λ (names : List (List ℕ)). record old { opened = names }) (sym (append-nil old.opened)); holds = holds }
-
-pub opened_then : {P Q : List (List ℕ) → Type 0} (name : List ℕ) (old mid new : Names) → HasOpened P old mid → new ≡ with_opened name mid
-    → ((opened : List (List ℕ)) → P opened → Q (opened ++ name ∷ [])) → HasOpened Q old new
-opened_then name old mid new before is goes = record {
-  opened = before.opened ++ name ∷ [];
-  asked = is ∙ ap (with_opened name) before.asked ∙ ap (λ (names : List (List ℕ)). record old { opened = names }) (append_assoc old.opened before.opened (name ∷ []));
-  holds = goes before.opened before.holds;
-}
-
-pub opened_so : {P Q : List (List ℕ) → Type 0} (old mid new : Names) → HasOpened P old mid → new ≡ mid → ((opened : List (List ℕ)) → P opened → Q opened) → HasOpened Q old new
-opened_so old mid new before is goes = record { opened = before.opened; asked = is ∙ before.asked; holds = goes before.opened before.holds }
-
--- ---- the mill
-
-pub has_orders : (words : MillWords) (m : Mill) (told : Option Told) → WhereTold told (λ t. HasMill words m t.files) → WhereTold told (λ t. HasOrders words t.files)
-has_orders words m told has = told_each (HasMill words m) (HasOrders words) told (λ files h. (h.bare, h.orders)) has
-
-pub has_some_mill : (words : MillWords) (m : Mill) (told : Option Told) → WhereTold told (λ t. HasMill words m t.files) → WhereTold told (λ t. HasSomeMill words t.files)
-has_some_mill words m told has = told_each (HasMill words m) (HasSomeMill words) told (λ files h. (m, h)) has
-
--- all its files were opened
-pub opens_mill : (words : MillWords) (m : Mill) (told : Option Told) (opened : List (List ℕ)) → WhereTold told (λ t. HasMill words m t.files) → opened ≡ mill_files words → OpensMill words told opened
-opens_mill words m told opened has is = inr (is, has_orders words m told has)
-
--- and one file more
-pub opens_one_more : (words : MillWords) (name : List ℕ) (m : Mill) (told : Option Told) (opened : List (List ℕ)) → WhereTold told (λ t. HasMill words m t.files) → opened ≡ mill_files words
-    → OpensOneMore words name told (opened ++ name ∷ [])
-opens_one_more words name m told opened has is = inr (ap (λ (names : List (List ℕ)). names ++ name ∷ []) is, has_some_mill words m told has)
-
--- where no answer came there is nothing to store
-pub no_store : (command : Command) (result : Result Answer Stop) (opened : List (List ℕ)) → IsErr result → MayStore command result opened
-no_store command (Ok answer) opened e = cc e
-no_store command (Err stop) opened e = tt
+use Rattle.slab_front.specs.Opens.{OpensInOrder, MayCreate, with_names, AsksInOrder, IsOpenedFor, names_for}
 
 -- ---- a run
 
@@ -80,7 +38,7 @@ asks_only parsed told status old mid new before is = record {
 
 -- the words can't stand
 pub asks_nothing : (number : ℕ) (told : Option Told) (status : ℕ) (old new : Names) → new ≡ old → AsksInOrder (Err number) told status old new
-asks_nothing number told status old new is = asks_only (Err number) told status old old new (opened_none {P = OpensInOrder (Err number) told} old refl) is
+asks_nothing number told status old new is = asks_only (Err number) told status old new new (opened_none {P = OpensInOrder (Err number) told} old new is refl) refl
 
 -- a search ends with one of its statuses
 searched : (s : Searched) (status : ℕ) → (status ≡ status_of s) ⊎ (status ≡ 5) → IsSearchStatus status ⊎ (status ≡ 5)

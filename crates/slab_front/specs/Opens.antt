@@ -1,11 +1,10 @@
 -- Which files a run asks its desk to open and to create, and when.
-use Rattle.std.specs.Prelude.{◌≡◌, ◌⊎◌, ℕ, List, [], ◌∷◌, ◌++◌, Option, Some, None, Result, Ok, Err}
-use Rattle.slab_desk.specs.Desk.{Told, Files, WhereTold}
+use Rattle.std.specs.Prelude.{◌≡◌, ◌⊎◌, ℕ, List, [], ◌∷◌, ◌++◌, Option, Result, Ok, Err}
+use Rattle.slab_desk.specs.Desk.{Told}
 use Rattle.slab_desk.specs.Names.{Names, with_created}
 use Rattle.mill_model.specs.Mill.{Mill}
-use Rattle.mill_read.specs.OrderFile.{order_file}
 use Rattle.run_words.specs.Words.{MillWords, Parsed}
-use Rattle.run_words.specs.Files.{HasValue, HasMill}
+use Rattle.run_words.specs.Opens.{mill_files, OpensMill, OpensOneMore}
 use Rattle.slab_front.specs.declared.ending.Answer.{Answer}
 use Rattle.slab_front.specs.declared.ending.Answer.TheVariants.{Text, Stored, SummedUp}
 use Rattle.slab_front.specs.declared.ending.Stop.{Stop}
@@ -13,40 +12,7 @@ use Rattle.slab_front.specs.Words.{Command}
 use Rattle.slab_front.specs.Words.Command.{Solves, Resumes, Judges, Makes}
 use Rattle.slab_front.specs.Owed.{IsSearchStatus}
 
--- ---- the files of a run, in the order in which they are read
-
-abbrev pub yard_files : Option (List ℕ) → List (List ℕ)
-yard_files None = []
-yard_files (Some name) = name ∷ []
-
-abbrev pub mill_files : MillWords → List (List ℕ)
-mill_files words = words.orders ∷ yard_files words.yard
-
-abbrev pub files_in : Command → List (List ℕ)
-files_in (Solves words cert limit) = mill_files words
-files_in (Resumes words cut cert limit) = mill_files words ++ cut ∷ []
-files_in (Judges words plan) = mill_files words ++ plan ∷ []
-files_in (Makes orders seed) = []
-
 -- ---- how far a run reads
-
--- the order file is there, and in its grammar
-abbrev pub HasOrders : MillWords → Files → Type 0
-HasOrders words files = (bare : Mill) × HasValue order_file words.orders bare files
-
--- the files of the mill are there, and in their grammar
-abbrev pub HasSomeMill : MillWords → Files → Type 0
-HasSomeMill words files = (m : Mill) × HasMill words m files
-
--- the order file; and after it the yard file, where one is named and the order file could be read
-abbrev pub OpensMill : MillWords → Option Told → List (List ℕ) → Type 0
-OpensMill words told opened =
-    (opened ≡ words.orders ∷ []) ⊎ ((opened ≡ mill_files words) × WhereTold told (λ t. HasOrders words t.files))
-
--- and after those one file more, where the mill could be read
-abbrev pub OpensOneMore : MillWords → List ℕ → Option Told → List (List ℕ) → Type 0
-OpensOneMore words name told opened =
-    OpensMill words told opened ⊎ ((opened ≡ mill_files words ++ name ∷ []) × WhereTold told (λ t. HasSomeMill words t.files))
 
 -- just the beginning of the words' files, up to the first that is missing, faulty or refused, each once
 abbrev pub OpensInOrder : Parsed Command → Option Told → List (List ℕ) → Type 0
@@ -89,12 +55,6 @@ pub record AsksInOrder (parsed : Parsed Command) (told : Option Told) (status : 
   pub last : MayCreate parsed status opened created
 
 -- ---- its parts
-
--- names of which this holds were opened, and none was created
-pub record HasOpened (P : List (List ℕ) → Type 0) (old new : Names) : Type 0 where
-  pub opened : List (List ℕ)
-  pub asked : new ≡ record old { opened = old.opened ++ opened }
-  pub holds : P opened
 
 -- a mill was read from all its files, or reading stopped
 abbrev pub IsMillOpened : MillWords → Option Told → Result Mill Stop → List (List ℕ) → Type 0

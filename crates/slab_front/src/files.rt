@@ -8,9 +8,10 @@ ghost use Rattle.mill_read.specs.YardFile.{yard_file};
 ghost use Rattle.mill_read.specs.PlanFile.{plan_file};
 ghost use Rattle.run_words.specs.Words.{named_mill};
 ghost use Rattle.run_words.specs.Files.{most_bytes, HasValue, HasMill};
+ghost use Rattle.run_words.specs.Opens.{HasOpened};
 ghost use Rattle.slab_front.specs.Owed.{Nothing, OwesOfFile, OwesOfMill};
 ghost use Rattle.slab_front.specs.Endings.{HasOnlyRead, is_fault, IsStop, IsTooLong, IsRefusal};
-ghost use Rattle.slab_front.specs.Opens.{HasOpened, IsMillOpened};
+ghost use Rattle.slab_front.specs.Opens.{IsMillOpened};
 
 use crate::ending::Stop;
 use crate::texts::{Source, fault_text, long_text};

@@ -2,10 +2,10 @@ ghost use Rattle.std.specs.Prelude.{◌≡◌, ◌⊎◌, length, IfOk};
 ghost use Rattle.std.specs.String.{string_bytes};
 ghost use Rattle.mill_model.specs.Mill.{IsBetween, most_colour_limit};
 ghost use Rattle.run_words.specs.Words.{named_mill};
+ghost use Rattle.run_words.specs.Opens.{HasOpened, OpensOneMore};
 ghost use Rattle.slab_front.specs.Outcomes.{saying};
 ghost use Rattle.slab_front.specs.Owed.{OwesVerdict, OwesOfPlan, OwesOfMill};
 ghost use Rattle.slab_front.specs.Endings.{HasOnlyRead, is_fault, IsEnding, IsStop};
-ghost use Rattle.slab_front.specs.Opens.{HasOpened, OpensOneMore};
 
 use crate::ending::{Ending, Stop};
 use crate::files::{plan_in, read_mill};

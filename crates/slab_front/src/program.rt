@@ -6,12 +6,13 @@ ghost use Rattle.slab_desk.specs.Desk.{Steps};
 ghost use Rattle.slab_relax.specs.Tallies.{AreNoLess};
 ghost use Rattle.run_words.specs.Texts.{usage_text as usage_line};
 ghost use Rattle.run_words.specs.Ends.{EndsByFaults};
+ghost use Rattle.run_words.specs.Opens.{HasOpened};
 ghost use Rattle.slab_front.specs.Jobs.{command_of, IsInRanges};
 ghost use Rattle.slab_front.specs.Words.{job_of};
 ghost use Rattle.slab_front.specs.Outcomes.{Ran};
 ghost use Rattle.slab_front.specs.Owed.{Owes, OwesOfCommand, Exactly, MayEnd, LeavesUnread};
 ghost use Rattle.slab_front.specs.Endings.{HasOnlyRead, IsAnswer, IsStop, IsStoppedBy, MayAnswer};
-ghost use Rattle.slab_front.specs.Opens.{AsksInOrder, HasOpened, IsOpenedFor};
+ghost use Rattle.slab_front.specs.Opens.{AsksInOrder, IsOpenedFor};
 
 use crate::ending::{Answer, Stop};
 use crate::giving::{give, say};

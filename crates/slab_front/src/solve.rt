@@ -2,11 +2,12 @@ ghost use Rattle.std.specs.Prelude.{◌≡◌, ◌⊎◌, ◌≤◌, Bool, [], O
 ghost use Rattle.mill_model.specs.Mill.{IsBetween, most_colour_limit, most_orders};
 ghost use Rattle.slab_relax.specs.Tallies.{AreNoLess};
 ghost use Rattle.run_words.specs.Words.{named_mill};
+ghost use Rattle.run_words.specs.Opens.{HasOpened};
 ghost use Rattle.slab_front.specs.Words.{most_limit};
 ghost use Rattle.slab_front.specs.Owed.{IsSearchStatus, OwesOfMill, OwesSearch, OwesResumed, OwesMade, stored_as, Nothing};
 ghost use Rattle.slab_front.specs.Endings.{HasOnlyRead, IsStoppedBy, is_fault, IsAnswer, IsStop, status_for, outcome_for};
 ghost use Rattle.slab_front.specs.Words.Command.{Solves, Resumes, Makes};
-ghost use Rattle.slab_front.specs.Opens.{HasOpened, IsOpenedFor, MayStore};
+ghost use Rattle.slab_front.specs.Opens.{IsOpenedFor, MayStore};
 
 use crate::cut::read_cut;
 use crate::ending::{Answer, Ending, Stop};

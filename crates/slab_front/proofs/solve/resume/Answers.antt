@@ -6,13 +6,13 @@ use Rattle.slab_desk.specs.Desk.{WhereTold}
 use Rattle.slab_relax.specs.declared.tally.Tally.{Tally}
 use Rattle.run_words.specs.Words.{MillWords, named_mill}
 use Rattle.run_words.specs.Files.{HasMill}
+use Rattle.run_words.proofs.Opening.{opened_then, opens_one_more}
 use Rattle.run_words.proofs.Telling.{told_before, told_both}
 use Rattle.slab_front.specs.Searched.{Searched, status_of}
 use Rattle.slab_front.specs.Outcomes.{saying}
 use Rattle.slab_front.specs.Owed.{OwesOfMill, OwesResumed, stored_as}
 use Rattle.slab_front.specs.Endings.{IsReadCut, OnCutFile}
 use Rattle.slab_front.proofs.Owing.{owes_mill, owes_points, owes_no_cut}
-use Rattle.slab_front.proofs.Opening.{opened_then, opens_one_more}
 use Rattle.slab_front.proofs.solve.resume.Goals as goal
 
 pub returns-in-No-clause-answer : goal.returns-in-No-clause-answer

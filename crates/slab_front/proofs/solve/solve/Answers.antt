@@ -3,11 +3,11 @@ use Rattle.mill_model.specs.Fronts.{Point}
 use Rattle.slab_relax.specs.declared.tally.Tally.{Tally}
 use Rattle.run_words.specs.Words.{MillWords, named_mill}
 use Rattle.run_words.specs.Files.{HasMill}
+use Rattle.run_words.proofs.Opening.{opened_so, opens_mill}
 use Rattle.run_words.proofs.Telling.{told_each}
 use Rattle.slab_front.specs.Searched.{Searched, IsSearched, status_of}
 use Rattle.slab_front.specs.Owed.{OwesOfMill, OwesSearch, stored_as}
 use Rattle.slab_front.proofs.Owing.{owes_mill}
-use Rattle.slab_front.proofs.Opening.{opened_so, opens_mill}
 use Rattle.slab_front.proofs.solve.solve.Goals as goal
 
 pub returns-clause-answer : goal.returns-clause-answer
