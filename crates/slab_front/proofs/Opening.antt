@@ -21,8 +21,8 @@ use Rattle.slab_front.specs.Opens.{OpensInOrder, MayCreate, with_names, AsksInOr
 
 creates_nothing : (parsed : Parsed Command) (status : ℕ) (opened : List (List ℕ)) → MayCreate parsed status opened []
 creates_nothing (Err number) status opened = refl
-creates_nothing (Ok (Solves words cert limit)) status opened = inl refl
-creates_nothing (Ok (Resumes words cut cert limit)) status opened = inl refl
+creates_nothing (Ok (Solves words searching)) status opened = inl refl
+creates_nothing (Ok (Resumes words cut searching)) status opened = inl refl
 creates_nothing (Ok (Judges words plan)) status opened = refl
 creates_nothing (Ok (Makes orders seed)) status opened = refl
 
@@ -58,14 +58,14 @@ pub asks_given : (command : Command) (told : Option Told) (answer : Answer) (sta
     → (status ≡ status_for answer) ⊎ (status ≡ 5) → AsksInOrder (Ok command) told status old new
 asks_given command told (Text ending) status old mid new before is ends = asks_only (Ok command) told status old mid new (in_order old mid before) is
 asks_given command told (SummedUp m s) status old mid new before is ends = asks_only (Ok command) told status old mid new (in_order old mid before) is
-asks_given (Solves words cert limit) told (Stored name m s) status old mid new before is ends = record {
+asks_given (Solves words searching) told (Stored name m s) status old mid new before is ends = record {
   opened = before.opened;
   created = name.now ∷ [];
   asked = is ∙ ap (with_created name.now) before.asked;
   order = before.holds.order;
   last = inr (record { one = ap (λ (n : List ℕ). n ∷ []) before.holds.store.0; after = before.holds.store.1; ended = searched s status ends });
 }
-asks_given (Resumes words cut cert limit) told (Stored name m s) status old mid new before is ends = record {
+asks_given (Resumes words cut searching) told (Stored name m s) status old mid new before is ends = record {
   opened = before.opened;
   created = name.now ∷ [];
   asked = is ∙ ap (with_created name.now) before.asked;

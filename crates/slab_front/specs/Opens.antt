@@ -17,8 +17,8 @@ use Rattle.slab_front.specs.Owed.{IsSearchStatus}
 -- just the beginning of the words' files, up to the first that is missing, faulty or refused, each once
 abbrev pub OpensInOrder : Parsed Command → Option Told → List (List ℕ) → Type 0
 OpensInOrder (Err number) told opened = opened ≡ []
-OpensInOrder (Ok (Solves words cert limit)) told opened = OpensMill words told opened
-OpensInOrder (Ok (Resumes words cut cert limit)) told opened = OpensOneMore words cut told opened
+OpensInOrder (Ok (Solves words searching)) told opened = OpensMill words told opened
+OpensInOrder (Ok (Resumes words cut searching)) told opened = OpensOneMore words cut told opened
 OpensInOrder (Ok (Judges words plan)) told opened = OpensOneMore words plan told opened
 OpensInOrder (Ok (Makes orders seed)) told opened = opened ≡ []
 
@@ -33,10 +33,10 @@ pub record CreatesAtLast (cert : List ℕ) (files : List (List ℕ)) (status : �
 -- no file, or just the certificate of a search, and that only when its outcome is decided
 abbrev pub MayCreate : Parsed Command → ℕ → List (List ℕ) → List (List ℕ) → Type 0
 MayCreate (Err number) status opened created = created ≡ []
-MayCreate (Ok (Solves words cert limit)) status opened created =
-    (created ≡ []) ⊎ CreatesAtLast cert (mill_files words) status opened created
-MayCreate (Ok (Resumes words cut cert limit)) status opened created =
-    (created ≡ []) ⊎ CreatesAtLast cert (mill_files words ++ cut ∷ []) status opened created
+MayCreate (Ok (Solves words searching)) status opened created =
+    (created ≡ []) ⊎ CreatesAtLast searching.cert (mill_files words) status opened created
+MayCreate (Ok (Resumes words cut searching)) status opened created =
+    (created ≡ []) ⊎ CreatesAtLast searching.cert (mill_files words ++ cut ∷ []) status opened created
 MayCreate (Ok (Judges words plan)) status opened created = created ≡ []
 MayCreate (Ok (Makes orders seed)) status opened created = created ≡ []
 
@@ -63,8 +63,8 @@ IsMillOpened words told (Err stop) opened = OpensMill words told opened
 
 -- where a certificate is to be stored, it is the one of the words, and all files were opened
 abbrev pub IsStoredLast : Command → List ℕ → List (List ℕ) → Type 0
-IsStoredLast (Solves words cert limit) name opened = (name ≡ cert) × (opened ≡ mill_files words)
-IsStoredLast (Resumes words cut cert limit) name opened = (name ≡ cert) × (opened ≡ mill_files words ++ cut ∷ [])
+IsStoredLast (Solves words searching) name opened = (name ≡ searching.cert) × (opened ≡ mill_files words)
+IsStoredLast (Resumes words cut searching) name opened = (name ≡ searching.cert) × (opened ≡ mill_files words ++ cut ∷ [])
 IsStoredLast (Judges words plan) name opened = ⊥
 IsStoredLast (Makes orders seed) name opened = ⊥
 

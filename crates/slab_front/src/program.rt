@@ -17,6 +17,7 @@ ghost use Rattle.slab_front.specs.Opens.{AsksInOrder, IsOpenedFor};
 use crate::ending::{Answer, Stop};
 use crate::giving::{give, say};
 use crate::judge::judge;
+use crate::names::{MillNames, SearchNames};
 use crate::solve::{make, resume, solve};
 use crate::texts::usage_text;
 use crate::words::{Job, UsageAt, read_words};
@@ -109,7 +110,13 @@ fn answer<'a, D: Desk>(
             yard,
             nodes,
             colours,
-        } => solve(alloc, desk, tally, orders, cert, yard, nodes, colours),
+            rounds,
+            seed,
+        } => {
+            let names = MillNames { orders, yard, colours };
+            let how = SearchNames { cert, nodes, rounds, seed };
+            solve(alloc, desk, tally, names, how)
+        }
         Job::Resume {
             orders,
             cut,
@@ -117,13 +124,22 @@ fn answer<'a, D: Desk>(
             yard,
             nodes,
             colours,
-        } => resume(alloc, desk, tally, orders, cut, cert, yard, nodes, colours),
+            rounds,
+            seed,
+        } => {
+            let names = MillNames { orders, yard, colours };
+            let how = SearchNames { cert, nodes, rounds, seed };
+            resume(alloc, desk, tally, names, cut, how)
+        }
         Job::Judge {
             orders,
             plan,
             yard,
             colours,
-        } => Ok(Answer::Text(judge(alloc, desk, orders, plan, yard, colours)?)),
+        } => {
+            let names = MillNames { orders, yard, colours };
+            Ok(Answer::Text(judge(alloc, desk, names, plan)?))
+        }
         Job::Make { orders, seed } => Ok(make(alloc, tally, orders, seed)?),
     }
 }

@@ -28,7 +28,7 @@ fn solved(alloc: Global, orders: &str, yard: &str, options: &str) -> Result<Row,
 // Order file, yard file, options, status, and what is said.
 type Said = (&'static str, &'static str, &'static str, u8, &'static str);
 
-fn fronts() -> [Said; 11] {
+fn fronts() -> [Said; 15] {
     let front = "front 1\npoint 0 1\nnew 10 1 2\nnodes 2 bare 0\ncomplete\n";
     let fives = "front 1\npoint 5 2\nnew 10 1 2\nnew 10 3\nnodes 4 bare 0\ncomplete\n";
     [
@@ -85,6 +85,29 @@ fn fronts() -> [Said; 11] {
             3,
             "front 0\nnodes 1 bare 0\nbudget\n",
         ),
+        (ONE, "", " --rounds 10000 --seed 4294967295", 0, front),
+        // The round's plan has loss 0 and count 2, and doesn't replace the first-fit plan.
+        (
+            "2 4 8 1 2 4 1 4 1",
+            "",
+            " --rounds 1 --seed 0 --nodes 2",
+            0,
+            "front 1\npoint 0 1\nnew 8 1 2\nnodes 2 bare 0\ncomplete\n",
+        ),
+        (
+            THREE_COLOURS,
+            "",
+            " --rounds 20 --colours 1",
+            0,
+            "front 1\npoint 18 3\nnew 9 1\nnew 9 2\nnew 9 3\nnodes 2 bare 0\ncomplete\n",
+        ),
+        (
+            THREE_COLOURS,
+            "",
+            " --colours 3 --seed 7 --rounds 20",
+            0,
+            "front 1\npoint 0 1\nnew 9 1 2 3\nnodes 2 bare 0\ncomplete\n",
+        ),
     ]
 }
 
@@ -99,7 +122,7 @@ fn a_mill_has_its_front(rt: HostRuntime) -> Result<(), Fail> {
 }
 
 // Order file, yard file, options, and how what is said begins: the number of nodes isn't fixed.
-fn points() -> [(&'static str, &'static str, &'static str, &'static str); 6] {
+fn points() -> [(&'static str, &'static str, &'static str, &'static str); 8] {
     let both = "front 2\npoint 0 2\nnew 4 1\nnew 4 2\npoint 2 1\nnew 10 1 2\nnodes ";
     [
         (TWO, "", "", both),
@@ -117,6 +140,8 @@ fn points() -> [(&'static str, &'static str, &'static str, &'static str); 6] {
             "front 1\npoint 0 0\nold 1 1 2\nnodes ",
         ),
         (TWO, "1 8 1 2 1", " --yard yard", both),
+        (TWO, "", " --rounds 1 --seed 0", both),
+        (TWO, "1 8 1 2 1", " --rounds 20 --yard yard", both),
         (
             FIVE_FIVES,
             "",
