@@ -113,8 +113,17 @@ fn answer<'a, D: Desk>(
             rounds,
             seed,
         } => {
-            let names = MillNames { orders, yard, colours };
-            let how = SearchNames { cert, nodes, rounds, seed };
+            let names = MillNames {
+                orders,
+                yard,
+                colours,
+            };
+            let how = SearchNames {
+                cert,
+                nodes,
+                rounds,
+                seed,
+            };
             solve(alloc, desk, tally, names, how)
         }
         Job::Resume {
@@ -127,8 +136,17 @@ fn answer<'a, D: Desk>(
             rounds,
             seed,
         } => {
-            let names = MillNames { orders, yard, colours };
-            let how = SearchNames { cert, nodes, rounds, seed };
+            let names = MillNames {
+                orders,
+                yard,
+                colours,
+            };
+            let how = SearchNames {
+                cert,
+                nodes,
+                rounds,
+                seed,
+            };
             resume(alloc, desk, tally, names, cut, how)
         }
         Job::Judge {
@@ -137,7 +155,11 @@ fn answer<'a, D: Desk>(
             yard,
             colours,
         } => {
-            let names = MillNames { orders, yard, colours };
+            let names = MillNames {
+                orders,
+                yard,
+                colours,
+            };
             Ok(Answer::Text(judge(alloc, desk, names, plan)?))
         }
         Job::Make { orders, seed } => Ok(make(alloc, tally, orders, seed)?),

@@ -28,12 +28,14 @@ fn solved(alloc: Global, orders: &str, yard: &str, options: &str) -> Result<Row,
 // Order file, yard file, options, status, and what is said.
 type Said = (&'static str, &'static str, &'static str, u8, &'static str);
 
-fn fronts() -> [Said; 15] {
-    let front = "front 1\npoint 0 1\nnew 10 1 2\nnodes 2 bare 0\ncomplete\n";
-    let fives = "front 1\npoint 5 2\nnew 10 1 2\nnew 10 3\nnodes 4 bare 0\ncomplete\n";
+const FRONT_OF_ONE: &str = "front 1\npoint 0 1\nnew 10 1 2\nnodes 2 bare 0\ncomplete\n";
+
+const FRONT_OF_FIVES: &str = "front 1\npoint 5 2\nnew 10 1 2\nnew 10 3\nnodes 4 bare 0\ncomplete\n";
+
+fn fronts() -> [Said; 7] {
     [
-        (ONE, "", "", 0, front),
-        ("\t1\r\n10 1\n2 005 1 5\x0b1\r\n", "", "", 0, front),
+        (ONE, "", "", 0, FRONT_OF_ONE),
+        ("\t1\r\n10 1\n2 005 1 5\x0b1\r\n", "", "", 0, FRONT_OF_ONE),
         (
             "1 10 1 0",
             "",
@@ -49,20 +51,6 @@ fn fronts() -> [Said; 15] {
             "front 1\npoint 9 2\nnew 9 1 2\nnew 9 3\nnodes 4 bare 0\ncomplete\n",
         ),
         (
-            THREE_COLOURS,
-            "",
-            " --colours 3",
-            0,
-            "front 1\npoint 0 1\nnew 9 1 2 3\nnodes 2 bare 0\ncomplete\n",
-        ),
-        (
-            THREE_COLOURS,
-            "",
-            " --colours 1",
-            0,
-            "front 1\npoint 18 3\nnew 9 1\nnew 9 2\nnew 9 3\nnodes 2 bare 0\ncomplete\n",
-        ),
-        (
             "1 4 1 1 5 1",
             "",
             "",
@@ -76,8 +64,17 @@ fn fronts() -> [Said; 15] {
             4,
             "front 0\nnodes 1 bare 0\nnoplan\n",
         ),
-        (THREE_FIVES, "", "", 0, fives),
-        (THREE_FIVES, "", " --nodes 3", 0, fives),
+        (THREE_FIVES, "", "", 0, FRONT_OF_FIVES),
+    ]
+}
+
+fn fronts_by_options() -> [Said; 8] {
+    let three_together = "front 1\npoint 0 1\nnew 9 1 2 3\nnodes 2 bare 0\ncomplete\n";
+    let three_apart = "front 1\npoint 18 3\nnew 9 1\nnew 9 2\nnew 9 3\nnodes 2 bare 0\ncomplete\n";
+    [
+        (THREE_COLOURS, "", " --colours 3", 0, three_together),
+        (THREE_COLOURS, "", " --colours 1", 0, three_apart),
+        (THREE_FIVES, "", " --nodes 3", 0, FRONT_OF_FIVES),
         (
             THREE_FIVES,
             "",
@@ -85,7 +82,13 @@ fn fronts() -> [Said; 15] {
             3,
             "front 0\nnodes 1 bare 0\nbudget\n",
         ),
-        (ONE, "", " --rounds 10000 --seed 4294967295", 0, front),
+        (
+            ONE,
+            "",
+            " --rounds 10000 --seed 4294967295",
+            0,
+            FRONT_OF_ONE,
+        ),
         // The round's plan has loss 0 and count 2, and doesn't replace the first-fit plan.
         (
             "2 4 8 1 2 4 1 4 1",
@@ -94,29 +97,43 @@ fn fronts() -> [Said; 15] {
             0,
             "front 1\npoint 0 1\nnew 8 1 2\nnodes 2 bare 0\ncomplete\n",
         ),
+        // A round that forgot the colour limit would put all three on one slab, or two.
         (
             THREE_COLOURS,
             "",
             " --rounds 20 --colours 1",
             0,
-            "front 1\npoint 18 3\nnew 9 1\nnew 9 2\nnew 9 3\nnodes 2 bare 0\ncomplete\n",
+            three_apart,
         ),
         (
             THREE_COLOURS,
             "",
             " --colours 3 --seed 7 --rounds 20",
             0,
-            "front 1\npoint 0 1\nnew 9 1 2 3\nnodes 2 bare 0\ncomplete\n",
+            three_together,
         ),
     ]
 }
 
+// Whether `solve` of these files ends with this status and says this.
+fn is_said(alloc: Global, row: Said) -> Result<bool, AllocError> {
+    let (orders, yard, options, status, said) = row;
+    let row = solved(alloc, orders, yard, options)?;
+    Ok(row.status == status && row.said.as_slice() == said.as_bytes())
+}
+
 #[test]
 fn a_mill_has_its_front(rt: HostRuntime) -> Result<(), Fail> {
-    for (orders, yard, options, status, said) in fronts() {
-        let row = solved(rt.alloc(), orders, yard, options)?;
-        let holds = row.status == status && row.said.as_slice() == said.as_bytes();
-        assert!(rt; holds, "{orders}{options}");
+    for row in fronts() {
+        assert!(rt; is_said(rt.alloc(), row)?, "{}", row.0);
+    }
+    Ok(())
+}
+
+#[test]
+fn options_are_heeded(rt: HostRuntime) -> Result<(), Fail> {
+    for row in fronts_by_options() {
+        assert!(rt; is_said(rt.alloc(), row)?, "{}{}", row.0, row.2);
     }
     Ok(())
 }

@@ -21,7 +21,7 @@ returns-clause-answer g c =
     let mill = c.in_ok-mill.mill in
     let s : Searched = c.in_ok-search.search in
     let found : IsSearched (told_of how) mill [] how.nodes was is (status_of s) s =
-      subst (λ (ps : List Point). IsSearched (told_of how) mill ps how.nodes was is (status_of s) s) c.no_points.ensures c.in_ok-search.ensures.found in
+    subst (λ (ps : List Point). IsSearched (told_of how) mill ps how.nodes was is (status_of s) s) c.no_points.ensures c.in_ok-search.ensures.found in
     told_each (HasMill words mill) (λ files. OwesOfMill (OwesSearch how [] was is) files words (status_of s) (stored_as how.cert mill s))
     (g.D.Desk.told c.args.desk.now)
     (λ files has. owes_mill (OwesSearch how [] was is) files words mill (status_of s) (stored_as how.cert mill s) has (s, found, refl))
