@@ -4,6 +4,8 @@ use crate::row::{Row, only_says, run_row};
 use std::alloc::{AllocError, Global};
 use std::test::Fail;
 
+const NO_ORDERS: &str = "1 10 1 0";
+
 const ONE: &str = "1 10 1 2 5 1 5 1";
 
 const TWO: &str = "2 4 10 1 2 4 1 4 1";
@@ -28,6 +30,8 @@ fn solved(alloc: Global, orders: &str, yard: &str, options: &str) -> Result<Row,
 // Order file, yard file, options, status, and what is said.
 type Said = (&'static str, &'static str, &'static str, u8, &'static str);
 
+const FRONT_OF_NONE: &str = "front 1\npoint 0 0\nnodes 2 bare 0\ncomplete\n";
+
 const FRONT_OF_ONE: &str = "front 1\npoint 0 1\nnew 10 1 2\nnodes 2 bare 0\ncomplete\n";
 
 const FRONT_OF_FIVES: &str = "front 1\npoint 5 2\nnew 10 1 2\nnew 10 3\nnodes 4 bare 0\ncomplete\n";
@@ -36,13 +40,7 @@ fn fronts() -> [Said; 7] {
     [
         (ONE, "", "", 0, FRONT_OF_ONE),
         ("\t1\r\n10 1\n2 005 1 5\x0b1\r\n", "", "", 0, FRONT_OF_ONE),
-        (
-            "1 10 1 0",
-            "",
-            "",
-            0,
-            "front 1\npoint 0 0\nnodes 2 bare 0\ncomplete\n",
-        ),
+        (NO_ORDERS, "", "", 0, FRONT_OF_NONE),
         (
             THREE_COLOURS,
             "",
@@ -83,11 +81,11 @@ fn fronts_by_options() -> [Said; 8] {
             "front 0\nnodes 1 bare 0\nbudget\n",
         ),
         (
-            ONE,
+            NO_ORDERS,
             "",
             " --rounds 10000 --seed 4294967295",
             0,
-            FRONT_OF_ONE,
+            FRONT_OF_NONE,
         ),
         // The round's plan has loss 0 and count 2, and doesn't replace the first-fit plan.
         (
@@ -198,7 +196,7 @@ fn certificates() -> [(&'static str, &'static str, &'static str); 3] {
             "slabfront 2\npoint 0 1\nnew 10 1 2\nleaf 1 0 0 0\ndone\nleaf 0 10 5 5\n",
         ),
         (
-            "1 10 1 0",
+            NO_ORDERS,
             "",
             "slabfront 2\npoint 0 0\nleaf 1 0\ndone\nleaf 0 1\n",
         ),
