@@ -21,3 +21,39 @@ pub struct SearchNames<'a> {
     pub seed: u32,
     pub ghost few_nodes: { IsBetween 1 most_limit nodes },
 }
+
+impl<'a> MillNames<'a> {
+    ghost use Rattle.std.specs.Prelude.{◌≡◌};
+    ghost use Rattle.run_words.specs.Words.{named_mill};
+    ghost use Rattle.slab_front.specs.Jobs.{mill_named};
+
+    /// These names of a mill.
+    pub fn new(orders: &'a str, yard: Option<&'a str>, colours: u16) -> MillNames<'a>
+        requires { IsBetween 1 most_colour_limit colours }
+        ensures { mill_named result ≡ named_mill orders.entry yard.entry colours }
+    {
+        MillNames {
+            orders,
+            yard,
+            colours,
+        }
+    }
+}
+
+impl<'a> SearchNames<'a> {
+    ghost use Rattle.std.specs.Prelude.{◌≡◌};
+    ghost use Rattle.slab_front.specs.Jobs.{search_named};
+
+    /// These names of a search.
+    pub fn new(cert: &'a str, nodes: u64, rounds: u32, seed: u32) -> SearchNames<'a>
+        requires { IsBetween 1 most_limit nodes }
+        ensures { search_named result ≡ record { cert = cert.now; nodes = nodes; rounds = rounds; seed = seed } }
+    {
+        SearchNames {
+            cert,
+            nodes,
+            rounds,
+            seed,
+        }
+    }
+}

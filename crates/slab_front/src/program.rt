@@ -113,17 +113,8 @@ fn answer<'a, D: Desk>(
             rounds,
             seed,
         } => {
-            let names = MillNames {
-                orders,
-                yard,
-                colours,
-            };
-            let how = SearchNames {
-                cert,
-                nodes,
-                rounds,
-                seed,
-            };
+            let names = MillNames::new(orders, yard, colours);
+            let how = SearchNames::new(cert, nodes, rounds, seed);
             solve(alloc, desk, tally, names, how)
         }
         Job::Resume {
@@ -136,17 +127,8 @@ fn answer<'a, D: Desk>(
             rounds,
             seed,
         } => {
-            let names = MillNames {
-                orders,
-                yard,
-                colours,
-            };
-            let how = SearchNames {
-                cert,
-                nodes,
-                rounds,
-                seed,
-            };
+            let names = MillNames::new(orders, yard, colours);
+            let how = SearchNames::new(cert, nodes, rounds, seed);
             resume(alloc, desk, tally, names, cut, how)
         }
         Job::Judge {
@@ -155,11 +137,7 @@ fn answer<'a, D: Desk>(
             yard,
             colours,
         } => {
-            let names = MillNames {
-                orders,
-                yard,
-                colours,
-            };
+            let names = MillNames::new(orders, yard, colours);
             Ok(Answer::Text(judge(alloc, desk, names, plan)?))
         }
         Job::Make { orders, seed } => Ok(make(alloc, tally, orders, seed)?),
