@@ -1,5 +1,5 @@
 -- What a sweep answers is what a search finds.
-use Rattle.std.proofs.Common.{◌≡◌, ℕ, ◌+◌, ◌*◌, ◌<◌, ◌≤◌, ◌⊎◌, inl, inr, List, [], ◌∷◌, length, Option, Some, None, refl, sym, ap, subst, arith}
+use Rattle.std.proofs.Common.{◌≡◌, ℕ, ◌+◌, ◌*◌, ◌<◌, ◌≤◌, ◌⊎◌, inl, inr, List, [], ◌∷◌, length, Option, Some, None, refl, sym, ap, ◌∙◌, subst, arith}
 use Rattle.std.specs.List.{AllByRecursion}
 use Rattle.std.proofs.lemmas.Nat.{mul-le}
 use Rattle.slab_counter.specs.Counter.{last_count}
@@ -152,6 +152,11 @@ told_after rounds seed m limits plain =
       lossless = stays.loss;
       refuted = stays.refuted;
     }
+
+-- the same rounds with the same seed tell the same
+pub same_told : (rounds seed other number : ℕ) → rounds ≡ other → seed ≡ number → told_after_rounds rounds seed (Some first_fit) ≡ told_after_rounds other number (Some first_fit)
+same_told rounds seed other number e f =
+    ap (λ (n : ℕ). told_after_rounds n seed (Some first_fit)) e ∙ ap (λ (n : ℕ). told_after_rounds other n (Some first_fit)) f
 
 few_nodes : (m : Mill) (limit : ℕ) → limit + 2 ≤ most_nodes m → limit < (length m.orders + 2) * most_nodes m
 few_nodes m limit few = omega (arith, mul-le 1 (most_nodes m) (length m.orders + 2) (most_nodes m) (omega arith) (omega arith))
