@@ -1,3 +1,4 @@
+// A plan that is judged.
 ghost use Rattle.std.specs.Prelude.{◌≡◌, ◌⊎◌, length, IfOk};
 ghost use Rattle.std.specs.String.{string_bytes};
 ghost use Rattle.run_words.specs.Opens.{HasOpened, OpensOneMore};

@@ -1,4 +1,4 @@
-//! Where the mill of a job comes from, and how it is searched.
+// Where the mill of a job comes from, and how it is searched.
 ghost use Rattle.mill_model.specs.Mill.{IsBetween, most_colour_limit};
 ghost use Rattle.slab_front.specs.Words.{most_limit};
 

@@ -1,3 +1,4 @@
+// The search of a mill, and what it found.
 ghost use Rattle.std.specs.Prelude.{◌≡◌, [], IfOk};
 ghost use Rattle.mill_model.specs.Mill.{IsBetween};
 ghost use Rattle.mill_model.specs.Fronts.{IsGoodHead};

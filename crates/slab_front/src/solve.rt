@@ -1,4 +1,4 @@
-//! The jobs that search: a mill, a mill from a cut on, and a made mill.
+// The jobs that search: a mill, a mill from a cut on, and a made mill.
 ghost use Rattle.std.specs.Prelude.{◌≡◌, ◌⊎◌, ◌≤◌, Bool, [], Ok, IfOk};
 ghost use Rattle.mill_model.specs.Mill.{most_orders};
 ghost use Rattle.mill_model.specs.Fronts.{IsGoodHead};
