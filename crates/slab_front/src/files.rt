@@ -25,11 +25,14 @@ const MOST_BYTES: usize = 1048576;
 
 /// The mill of these names.
 pub fn read_mill<D: Desk>(alloc: Global, desk: &mut D, names: MillNames<'_>) -> Result<Mill, Stop>
-    ensures mill { IfOk result (λ mill. WhereTold (D.told desk.old) (λ t. HasMill (mill_named names.entry) mill t.files)) }
-    ensures reads { HasOnlyRead (IsStop (λ files. OwesOfMill Nothing files (mill_named names.entry)))
+    ensures mill { IfOk result (λ mill. WhereTold (D.told desk.old)
+        (λ t. HasMill (mill_named names.entry) mill t.files)) }
+    ensures reads { HasOnlyRead (IsStop (λ files. OwesOfMill Nothing files
+        (mill_named names.entry)))
         (D.told desk.old) (D.told desk.new) (D.faults desk.old) (D.faults desk.new) result }
     ensures stopped { D.stopped desk.new ≡ is_fault result }
-    ensures named { HasOpened (IsMillOpened (mill_named names.entry) (D.told desk.old) result) (D.named desk.old) (D.named desk.new) }
+    ensures named { HasOpened (IsMillOpened (mill_named names.entry) (D.told desk.old) result)
+        (D.named desk.old) (D.named desk.new) }
 {
     let mut mill = bare_mill(alloc, desk, names.orders)?;
     if let Some(name) = names.yard {
@@ -42,8 +45,10 @@ pub fn read_mill<D: Desk>(alloc: Global, desk: &mut D, names: MillNames<'_>) -> 
 
 // The mill of an order file.
 fn bare_mill<D: Desk>(alloc: Global, desk: &mut D, name: &str) -> Result<Mill, Stop>
-    ensures mill { IfOk result (λ mill. WhereTold (D.told desk.old) (λ t. HasValue order_file name.now mill t.files)) }
-    ensures reads { HasOnlyRead (IsStop (λ files. OwesOfFile Source.Orders order_file Nothing files name.now))
+    ensures mill { IfOk result (λ mill. WhereTold (D.told desk.old)
+        (λ t. HasValue order_file name.now mill t.files)) }
+    ensures reads { HasOnlyRead (IsStop (λ files. OwesOfFile Source.Orders order_file Nothing files
+        name.now))
         (D.told desk.old) (D.told desk.new) (D.faults desk.old) (D.faults desk.new) result }
     ensures stopped { D.stopped desk.new ≡ is_fault result }
     ensures named { D.named desk.new ≡ with_opened name.now (D.named desk.old) }
@@ -57,9 +62,11 @@ fn bare_mill<D: Desk>(alloc: Global, desk: &mut D, name: &str) -> Result<Mill, S
 
 // The yard of a yard file, for a mill.
 fn yard_in<D: Desk>(alloc: Global, desk: &mut D, mill: &Mill, name: &str) -> Result<Yard, Stop>
-    ensures yard { IfOk result (λ yard. WhereTold (D.told desk.old) (λ t. HasValue (yard_file (length mill.now.orders)) name.now yard t.files)) }
+    ensures yard { IfOk result (λ yard. WhereTold (D.told desk.old)
+        (λ t. HasValue (yard_file (length mill.now.orders)) name.now yard t.files)) }
     ensures bars { IfOk result (λ yard. AreBarsAmong (length mill.now.orders) yard.bars) }
-    ensures reads { HasOnlyRead (IsStop (λ files. OwesOfFile Source.Yard (yard_file (length mill.now.orders)) Nothing files name.now))
+    ensures reads { HasOnlyRead (IsStop (λ files. OwesOfFile Source.Yard
+        (yard_file (length mill.now.orders)) Nothing files name.now))
         (D.told desk.old) (D.told desk.new) (D.faults desk.old) (D.faults desk.new) result }
     ensures stopped { D.stopped desk.new ≡ is_fault result }
     ensures named { D.named desk.new ≡ with_opened name.now (D.named desk.old) }
@@ -73,9 +80,11 @@ fn yard_in<D: Desk>(alloc: Global, desk: &mut D, mill: &Mill, name: &str) -> Res
 
 /// The plan of a plan file, for a mill.
 pub fn plan_in<D: Desk>(alloc: Global, desk: &mut D, mill: &Mill, name: &str) -> Result<Plan, Stop>
-    ensures plan { IfOk result (λ plan. WhereTold (D.told desk.old) (λ t. HasValue (plan_file (length mill.now.orders)) name.now plan t.files)) }
+    ensures plan { IfOk result (λ plan. WhereTold (D.told desk.old)
+        (λ t. HasValue (plan_file (length mill.now.orders)) name.now plan t.files)) }
     ensures places { IfOk result (λ plan. length plan.place ≡ length mill.now.orders) }
-    ensures reads { HasOnlyRead (IsStop (λ files. OwesOfFile Source.Plan (plan_file (length mill.now.orders)) Nothing files name.now))
+    ensures reads { HasOnlyRead (IsStop (λ files. OwesOfFile Source.Plan
+        (plan_file (length mill.now.orders)) Nothing files name.now))
         (D.told desk.old) (D.told desk.new) (D.faults desk.old) (D.faults desk.new) result }
     ensures stopped { D.stopped desk.new ≡ is_fault result }
     ensures named { D.named desk.new ≡ with_opened name.now (D.named desk.old) }

@@ -22,9 +22,11 @@ pub fn judge<D: Desk>(
     names: MillNames<'_>,
     plan: &str,
 ) -> Result<Ending, Stop>
-    ensures ending { IfOk result (IsEnding (λ files. OwesOfMill (OwesOfPlan files plan.now) files (mill_named names.entry)) (D.told desk.old)) }
+    ensures ending { IfOk result (IsEnding (λ files. OwesOfMill (OwesOfPlan files plan.now) files
+        (mill_named names.entry)) (D.told desk.old)) }
     ensures status { IfOk result (λ ending. (ending.status ≡ 0) ⊎ (ending.status ≡ 8)) }
-    ensures reads { HasOnlyRead (IsStop (λ files. OwesOfMill (OwesOfPlan files plan.now) files (mill_named names.entry)))
+    ensures reads { HasOnlyRead (IsStop (λ files. OwesOfMill (OwesOfPlan files plan.now) files
+        (mill_named names.entry)))
         (D.told desk.old) (D.told desk.new) (D.faults desk.old) (D.faults desk.new) result }
     ensures stopped { D.stopped desk.new ≡ is_fault result }
     ensures named { HasOpened (OpensOneMore (mill_named names.entry) plan.now (D.told desk.old))
@@ -38,7 +40,8 @@ pub fn judge<D: Desk>(
 // The sums, where the plan is legal, or the first rule that it breaks.
 fn verdict(alloc: Global, mill: &Mill, plan: &Plan) -> Result<Ending, AllocError>
     requires { length plan.now.place ≡ length mill.now.orders }
-    ensures owed { IfOk result (λ ending. OwesVerdict mill.now plan.now ending.status (saying (string_bytes ending.text))) }
+    ensures owed { IfOk result (λ ending. OwesVerdict mill.now plan.now ending.status
+        (saying (string_bytes ending.text))) }
     ensures status { IfOk result (λ ending. (ending.status ≡ 0) ⊎ (ending.status ≡ 8)) }
 {
     match plan.judge(mill) {

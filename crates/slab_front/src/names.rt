@@ -47,7 +47,8 @@ impl<'a> SearchNames<'a> {
     /// These names of a search.
     pub fn new(cert: &'a str, nodes: u64, rounds: u32, seed: u32) -> SearchNames<'a>
         requires { IsBetween 1 most_limit nodes }
-        ensures { search_named result ≡ record { cert = cert.now; nodes = nodes; rounds = rounds; seed = seed } }
+        ensures { search_named result ≡ record
+            { cert = cert.now; nodes = nodes; rounds = rounds; seed = seed } }
     {
         SearchNames {
             cert,

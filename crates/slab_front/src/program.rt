@@ -48,17 +48,21 @@ pub fn run<D: Desk>(alloc: Global, words: &[String], desk: &mut D, tally: &mut T
         (Ran (Owes (map string_bytes words.now) tally.old tally.new) result) }
 
     // Whether the desk tells or not.
-    ensures status { MayEnd (job_of (map string_bytes words.now)) result ⊎ ((result ≡ 5) ⊎ (result ≡ 6)) }
-    ensures unread { Steps (D.told desk.old) (D.told desk.new) (LeavesUnread (job_of (map string_bytes words.now))) }
+    ensures status { MayEnd (job_of (map string_bytes words.now)) result ⊎
+        ((result ≡ 5) ⊎ (result ≡ 6)) }
+    ensures unread { Steps (D.told desk.old) (D.told desk.new)
+        (LeavesUnread (job_of (map string_bytes words.now))) }
     ensures fault { result ≡ 5 → Rose (D.faults desk.old) (D.faults desk.new) }
     ensures later { D.faults desk.old ≤ D.faults desk.new }
     ensures stopped { (result ≡ 5) ↔ IsTrue (D.stopped desk.new) }
     ensures kept { result ≢ 5 → D.faults desk.new ≡ D.faults desk.old }
-    ensures rose { D.faults desk.old < last_count → ((result ≡ 5) ↔ (D.faults desk.old < D.faults desk.new)) }
+    ensures rose { D.faults desk.old < last_count →
+        ((result ≡ 5) ↔ (D.faults desk.old < D.faults desk.new)) }
     ensures counters { AreNoLess tally.old tally.new }
 
     // The order of a run: what reads, writes and says may fail at is the outside's.
-    ensures opens { AsksInOrder (job_of (map string_bytes words.now)) (D.told desk.old) result (D.named desk.old) (D.named desk.new) }
+    ensures opens { AsksInOrder (job_of (map string_bytes words.now)) (D.told desk.old) result
+        (D.named desk.old) (D.named desk.new) }
 {
     let job = match read_words(words) {
         Ok(job) => job,
@@ -74,7 +78,8 @@ pub fn run<D: Desk>(alloc: Global, words: &[String], desk: &mut D, tally: &mut T
 
 // Says which word can't stand.
 fn refuse<D: Desk>(alloc: Global, usage: UsageAt, desk: &mut D) -> u8
-    ensures ran { Steps (D.told desk.old) (D.told desk.new) (Ran (λ files. Exactly 1 (usage_line usage.word)) result) }
+    ensures ran { Steps (D.told desk.old) (D.told desk.new)
+        (Ran (λ files. Exactly 1 (usage_line usage.word)) result) }
     ensures status { (result ≡ 1) ⊎ ((result ≡ 5) ⊎ (result ≡ 6)) }
     ensures unread { Steps (D.told desk.old) (D.told desk.new) (λ old new. new.left ≡ old.left) }
     ensures ends { EndsByFaults (D.faults desk.old) (D.faults desk.new) (D.stopped desk.new) result }
@@ -94,13 +99,16 @@ fn answer<'a, D: Desk>(
     tally: &mut Tally,
 ) -> Result<Answer<'a>, Stop>
     requires { IsInRanges job }
-    ensures answer { IfOk result (IsAnswer (OwesOfCommand (command_of job.entry) tally.old tally.new) (D.told desk.old)) }
+    ensures answer { IfOk result (IsAnswer (OwesOfCommand (command_of job.entry) tally.old
+        tally.new) (D.told desk.old)) }
     ensures status { MayAnswer (Ok (command_of job.entry)) result }
     ensures reads { HasOnlyRead (IsStop (OwesOfCommand (command_of job.entry) tally.old tally.new))
         (D.told desk.old) (D.told desk.new) (D.faults desk.old) (D.faults desk.new) result }
     ensures stopped { IsStoppedBy result (D.stopped desk.new) }
-    ensures unread { Steps (D.told desk.old) (D.told desk.new) (LeavesUnread (Ok (command_of job.entry))) }
-    ensures named { HasOpened (IsOpenedFor (command_of job.entry) (D.told desk.old) result) (D.named desk.old) (D.named desk.new) }
+    ensures unread { Steps (D.told desk.old) (D.told desk.new)
+        (LeavesUnread (Ok (command_of job.entry))) }
+    ensures named { HasOpened (IsOpenedFor (command_of job.entry) (D.told desk.old) result)
+        (D.named desk.old) (D.named desk.new) }
     ensures counters { AreNoLess tally.old tally.new }
 {
     match job {

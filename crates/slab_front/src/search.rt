@@ -54,7 +54,8 @@ pub fn search_front<S: Starter>(
     requires limit { IsBetween 1 most_limit limit }
     requires head { IsGoodHead mill.now before }
     requires plain { IsPlainMill mill.now → IsToldPlainly (S.told starter.old) mill.now }
-    ensures found { IfOk result (λ s. IsSearched (S.told starter.old) mill.now before limit tally.old tally.new (status_of s) s) }
+    ensures found { IfOk result (λ s. IsSearched (S.told starter.old) mill.now before limit
+        tally.old tally.new (status_of s) s) }
     ensures counters { AreNoLess tally.old tally.new }
 {
     // Its readers tell that a mill is within its limits.

@@ -34,13 +34,16 @@ pub fn solve<'a, D: Desk>(
     names: MillNames<'_>,
     how: SearchNames<'a>,
 ) -> Result<Answer<'a>, Stop>
-    ensures answer { IfOk result (IsAnswer (λ files. OwesOfMill (OwesSearch (search_named how.entry) [] tally.old tally.new) files
+    ensures answer { IfOk result (IsAnswer (λ files. OwesOfMill
+        (OwesSearch (search_named how.entry) [] tally.old tally.new) files
         (mill_named names.entry)) (D.told desk.old)) }
     ensures status { IfOk result (λ answer. IsSearchStatus (status_for answer)) }
-    ensures reads { HasOnlyRead (IsStop (λ files. OwesOfMill Nothing files (mill_named names.entry)))
+    ensures reads { HasOnlyRead (IsStop (λ files. OwesOfMill Nothing files
+        (mill_named names.entry)))
         (D.told desk.old) (D.told desk.new) (D.faults desk.old) (D.faults desk.new) result }
     ensures stopped { D.stopped desk.new ≡ is_fault result }
-    ensures named { HasOpened (IsOpenedFor (Solves (mill_named names.entry) (search_named how.entry)) (D.told desk.old) result)
+    ensures named { HasOpened (IsOpenedFor (Solves (mill_named names.entry)
+        (search_named how.entry)) (D.told desk.old) result)
         (D.named desk.old) (D.named desk.new) }
     ensures counters { AreNoLess tally.old tally.new }
 {
@@ -59,13 +62,17 @@ pub fn resume<'a, D: Desk>(
     cut: &str,
     how: SearchNames<'a>,
 ) -> Result<Answer<'a>, Stop>
-    ensures answer { IfOk result (IsAnswer (λ files. OwesOfMill (OwesResumed files cut.now (search_named how.entry) tally.old tally.new) files
+    ensures answer { IfOk result (IsAnswer (λ files. OwesOfMill
+        (OwesResumed files cut.now (search_named how.entry) tally.old tally.new) files
         (mill_named names.entry)) (D.told desk.old)) }
-    ensures status { IfOk result (λ answer. (status_for answer ≡ 7) ⊎ IsSearchStatus (status_for answer)) }
-    ensures reads { HasOnlyRead (IsStop (λ files. OwesOfMill Nothing files (mill_named names.entry)))
+    ensures status { IfOk result (λ answer. (status_for answer ≡ 7) ⊎ IsSearchStatus
+        (status_for answer)) }
+    ensures reads { HasOnlyRead (IsStop (λ files. OwesOfMill Nothing files
+        (mill_named names.entry)))
         (D.told desk.old) (D.told desk.new) (D.faults desk.old) (D.faults desk.new) result }
     ensures stopped { D.stopped desk.new ≡ is_fault result }
-    ensures named { HasOpened (IsOpenedFor (Resumes (mill_named names.entry) cut.now (search_named how.entry)) (D.told desk.old) result)
+    ensures named { HasOpened (IsOpenedFor (Resumes (mill_named names.entry) cut.now
+        (search_named how.entry)) (D.told desk.old) result)
         (D.named desk.old) (D.named desk.new) }
     ensures counters { AreNoLess tally.old tally.new }
 {
@@ -92,7 +99,8 @@ fn search_on(
     tally: &mut Tally,
 ) -> Result<Search, AllocError>
     requires head { IsGoodHead mill.now before }
-    ensures found { IfOk result (λ s. IsSearched (told_of (search_named how.entry)) mill.now before how.entry.nodes
+    ensures found { IfOk result (λ s. IsSearched (told_of (search_named how.entry)) mill.now before
+        how.entry.nodes
         tally.old tally.new (status_of s) s) }
     ensures counters { AreNoLess tally.old tally.new }
 {
@@ -110,7 +118,8 @@ pub fn make(
     seed: u32,
 ) -> Result<Answer<'static>, AllocError>
     requires { orders ≤ most_orders }
-    ensures owed { IfOk result (λ answer. OwesMade orders seed tally.old tally.new (status_for answer) (outcome_for answer)) }
+    ensures owed { IfOk result (λ answer. OwesMade orders seed tally.old tally.new
+        (status_for answer) (outcome_for answer)) }
     ensures status { IfOk result (λ answer. status_for answer ≡ 0) }
     ensures calls { IfOk result (λ answer. (failed : Bool) → IsStoppedBy (Ok answer) failed) }
     ensures stores { IfOk result (λ answer. MayStore (Makes orders seed) (Ok answer) []) }

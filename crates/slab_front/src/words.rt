@@ -178,7 +178,9 @@ fn make(words: &[String]) -> Result<Job<'_>, UsageAt>
 
 // The words that are left are options of this command.
 fn read_options(words: &[String], command: Optioned) -> Result<Options<'_>, UsageAt>
-    ensures options { IsParsed options_of result (options_from (searches_for command) (number_of_options command) no_options (map string_bytes words.now)) }
+    ensures options { IsParsed options_of result
+        (options_from (searches_for command) (number_of_options command) no_options
+        (map string_bytes words.now)) }
     ensures ranges { IfOk result AreInRanges }
 {
     let mut options = Options {
@@ -246,9 +248,13 @@ impl<'a> Options<'a> {
         value: Option<&'a str>,
     ) -> Result<Options<'a>, UsageAt>
         requires ranges { AreInRanges self }
-        ensures options { IsParsed options_of result (with_one_more (searches_for command) (word_after (number_of_options command) (options_of self.entry)) (options_of self.entry) name.now (name_bytes value.entry)) }
+        ensures options { IsParsed options_of result
+            (with_one_more (searches_for command)
+            (word_after (number_of_options command) (options_of self.entry)) (options_of self.entry)
+            name.now (name_bytes value.entry)) }
         ensures ranges { IfOk result AreInRanges }
-        ensures next { IfOk result (λ options. (first : ℕ) → word_after first (options_of options) ≡ word_after first (options_of self.entry) + 2) }
+        ensures next { IfOk result (λ options. (first : ℕ) → word_after first (options_of options) ≡
+            word_after first (options_of self.entry) + 2) }
     {
         let number = self.next_word(command);
         let wrong = UsageAt { word: number + 1 };
@@ -282,9 +288,11 @@ impl<'a> Options<'a> {
     ) -> Result<Options<'a>, UsageAt>
         requires ranges { AreInRanges self }
         requires few { number ≤ 15 }
-        ensures options { IsParsed options_of result (with_one_of_search number (options_of self.entry) name.now (name_bytes value.entry)) }
+        ensures options { IsParsed options_of result
+            (with_one_of_search number (options_of self.entry) name.now (name_bytes value.entry)) }
         ensures ranges { IfOk result AreInRanges }
-        ensures next { IfOk result (λ options. (first : ℕ) → word_after first (options_of options) ≡ word_after first (options_of self.entry) + 2) }
+        ensures next { IfOk result (λ options. (first : ℕ) → word_after first (options_of options) ≡
+            word_after first (options_of self.entry) + 2) }
     {
         let wrong = UsageAt { word: number + 1 };
         if name == "--nodes" && self.nodes.is_none() {
@@ -314,7 +322,8 @@ impl<'a> Options<'a> {
 
 // The first of the words, which has this number and is a file word, and the words after it.
 fn file_word(words: &[String], number: u32) -> Result<(&str, &[String]), UsageAt>
-    ensures { IsParsed (λ r. (r.0.now, map string_bytes r.1.now)) result (word_at file_named number (map string_bytes words.now)) }
+    ensures { IsParsed (λ r. (r.0.now, map string_bytes r.1.now)) result
+        (word_at file_named number (map string_bytes words.now)) }
 {
     match words {
         [word, rest @ ..] if is_file_name(word.as_str()) => Ok((word.as_str(), rest)),
@@ -329,7 +338,8 @@ fn number_word(
     least: u64,
     most: u64,
 ) -> Result<(u64, &[String]), UsageAt>
-    ensures parsed { IsParsed (λ r. (r.0, map string_bytes r.1.now)) result (word_at (number_named least most) number (map string_bytes words.now)) }
+    ensures parsed { IsParsed (λ r. (r.0, map string_bytes r.1.now)) result
+        (word_at (number_named least most) number (map string_bytes words.now)) }
     ensures within { IfOk result (λ r. IsBetween least most r.0) }
 {
     let [word, rest @ ..] = words else {
