@@ -24,7 +24,8 @@ pub fn give<D: Desk>(desk: &mut D, answer: Answer<'_>) -> u8
     requires calls { IsStoppedBy (Ok answer) (D.stopped desk.old) }
     ensures finishes { Finishes (status_for answer.entry) (outcome_for answer.entry)
         (D.told desk.old) (D.told desk.new) result }
-    ensures ends { EndsByFaults (D.faults desk.old) (D.faults desk.new) (D.stopped desk.new) result }
+    ensures ends { EndsByFaults (D.faults desk.old) (D.faults desk.new)
+        (D.stopped desk.new) result }
     ensures named { D.named desk.new ≡ names_for answer.entry (D.named desk.old) }
 {
     match answer {
@@ -39,8 +40,10 @@ pub fn give<D: Desk>(desk: &mut D, answer: Answer<'_>) -> u8
 pub fn say<D: Desk>(desk: &mut D, status: u8, text: &str) -> u8
     requires status { status ≢ 5 }
     requires calls { (D.stopped desk.old ≡ false) ⊎ (0 < length text.now) }
-    ensures finishes { Finishes status (saying text.now) (D.told desk.old) (D.told desk.new) result }
-    ensures ends { EndsByFaults (D.faults desk.old) (D.faults desk.new) (D.stopped desk.new) result }
+    ensures finishes { Finishes status (saying text.now)
+        (D.told desk.old) (D.told desk.new) result }
+    ensures ends { EndsByFaults (D.faults desk.old) (D.faults desk.new)
+        (D.stopped desk.new) result }
     ensures named { D.named desk.new ≡ D.named desk.old }
 {
     match say_all(desk, text.as_bytes()) {
@@ -53,7 +56,8 @@ pub fn say<D: Desk>(desk: &mut D, status: u8, text: &str) -> u8
 fn store_and_say<D: Desk>(desk: &mut D, name: &str, mill: &Mill, search: &Search) -> u8
     ensures finishes { Finishes (status_of search.now) (stored_as name.now mill.now search.now)
         (D.told desk.old) (D.told desk.new) result }
-    ensures ends { EndsByFaults (D.faults desk.old) (D.faults desk.new) (D.stopped desk.new) result }
+    ensures ends { EndsByFaults (D.faults desk.old) (D.faults desk.new)
+        (D.stopped desk.new) result }
     ensures named { D.named desk.new ≡ with_created name.now (D.named desk.old) }
 {
     if store(desk, name, mill, search).is_err() {
@@ -91,7 +95,8 @@ fn store<D: Desk>(desk: &mut D, name: &str, mill: &Mill, search: &Search) -> Res
 fn sum_up<D: Desk>(desk: &mut D, mill: &Mill, search: &Search) -> u8
     ensures finishes { Finishes (status_of search.now) (summed_up mill.now search.now)
         (D.told desk.old) (D.told desk.new) result }
-    ensures ends { EndsByFaults (D.faults desk.old) (D.faults desk.new) (D.stopped desk.new) result }
+    ensures ends { EndsByFaults (D.faults desk.old) (D.faults desk.new)
+        (D.stopped desk.new) result }
     ensures named { D.named desk.new ≡ D.named desk.old }
 {
     match say_summary(

@@ -82,7 +82,8 @@ fn refuse<D: Desk>(alloc: Global, usage: UsageAt, desk: &mut D) -> u8
         (Ran (λ files. Exactly 1 (usage_line usage.word)) result) }
     ensures status { (result ≡ 1) ⊎ ((result ≡ 5) ⊎ (result ≡ 6)) }
     ensures unread { Steps (D.told desk.old) (D.told desk.new) (λ old new. new.left ≡ old.left) }
-    ensures ends { EndsByFaults (D.faults desk.old) (D.faults desk.new) (D.stopped desk.new) result }
+    ensures ends { EndsByFaults (D.faults desk.old) (D.faults desk.new)
+        (D.stopped desk.new) result }
     ensures named { D.named desk.new ≡ D.named desk.old }
 {
     match usage_text(alloc, usage) {
