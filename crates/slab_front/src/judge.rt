@@ -1,11 +1,12 @@
 // A plan that is judged.
 ghost use Rattle.std.specs.Prelude.{◌≡◌, ◌⊎◌, length, IfOk};
 ghost use Rattle.std.specs.String.{string_bytes};
-ghost use Rattle.run_words.specs.Opens.{HasOpened, OpensOneMore};
+ghost use Rattle.run_words.specs.Opens.{HasOpened};
 ghost use Rattle.slab_front.specs.Jobs.{mill_named};
 ghost use Rattle.slab_front.specs.Outcomes.{saying};
 ghost use Rattle.slab_front.specs.Owed.{OwesVerdict, OwesOfPlan, OwesOfMill};
 ghost use Rattle.slab_front.specs.Endings.{HasOnlyRead, is_fault, IsEnding, IsStop};
+ghost use Rattle.slab_front.specs.Opens.{IsPlanOpened};
 
 use crate::ending::{Ending, Stop};
 use crate::files::{plan_in, read_mill};
@@ -29,7 +30,7 @@ pub fn judge<D: Desk>(
         (mill_named names.entry)))
         (D.told desk.old) (D.told desk.new) (D.faults desk.old) (D.faults desk.new) result }
     ensures stopped { D.stopped desk.new ≡ is_fault result }
-    ensures named { HasOpened (OpensOneMore (mill_named names.entry) plan.now (D.told desk.old))
+    ensures named { HasOpened (IsPlanOpened (mill_named names.entry) plan.now (D.told desk.old) result)
         (D.named desk.old) (D.named desk.new) }
 {
     let mill = read_mill(alloc, desk, names)?;

@@ -9,7 +9,7 @@ ghost use Rattle.slab_front.specs.Searched.{IsSearched, status_of};
 ghost use Rattle.slab_front.specs.Owed.{IsSearchStatus, OwesOfMill, OwesSearch, OwesResumed, OwesMade, Nothing, told_of};
 ghost use Rattle.slab_front.specs.Endings.{HasOnlyRead, IsStoppedBy, is_fault, IsAnswer, IsStop, status_for, outcome_for};
 ghost use Rattle.slab_front.specs.Words.Command.{Solves, Resumes, Makes};
-ghost use Rattle.slab_front.specs.Opens.{IsOpenedFor, MayStore};
+ghost use Rattle.slab_front.specs.Opens.{Answers, IsOpenedFor};
 
 use crate::cut::read_cut;
 use crate::ending::{Answer, Ending, Stop};
@@ -122,7 +122,7 @@ pub fn make(
         (status_for answer) (outcome_for answer)) }
     ensures status { IfOk result (λ answer. status_for answer ≡ 0) }
     ensures calls { IfOk result (λ answer. (failed : Bool) → IsStoppedBy (Ok answer) failed) }
-    ensures stores { IfOk result (λ answer. MayStore (Makes orders seed) (Ok answer) []) }
+    ensures answers { IfOk result (Answers (Makes orders seed)) }
     ensures counters { AreNoLess tally.old tally.new }
 {
     let mill = make_mill(alloc, orders, seed)?;

@@ -55,5 +55,6 @@ returns-clause-named g c =
     let words : MillWords = mill_named c.args.names in
     opened_then c.args.cut.now _ _ _ c.in_ok-mill.ensures.named c.in_ok-read.ensures.named (λ opened is. record {
       order = opens_one_more words c.args.cut.now c.in_ok-mill.mill (g.D.Desk.told c.args.desk.now) opened c.in_ok-mill.ensures.mill is;
-      store = (refl, ap (λ (names : List (List ℕ)). names ++ c.args.cut.now ∷ []) is);
+      all = ap (λ (names : List (List ℕ)). names ++ c.args.cut.now ∷ []) is;
+      answers = refl;
     })

@@ -32,5 +32,6 @@ returns-clause-named g c =
     let words : MillWords = mill_named c.args.names in
     opened_so _ _ _ c.in_ok-mill.ensures.named refl (λ opened is. record {
       order = opens_mill words c.in_ok-mill.mill (g.D.Desk.told c.args.desk.now) opened c.in_ok-mill.ensures.mill is;
-      store = (refl, is);
+      all = is;
+      answers = refl;
     })
