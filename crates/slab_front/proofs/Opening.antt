@@ -83,17 +83,16 @@ unsearched_text code status (inl e) never is = never (subst IsSearchStatus e is)
 unsearched_text code status (inr five) never is = not_five status five is
 
 -- a file was created under the name of a search's words
-asks_stored : (command : Command) (cert : List ℕ) (told : Option Told) (result : Result Answer Stop) (name : List ℕ) (status : ℕ) (old mid new : Names) → HasOpened (IsOpenedFor command told result) old mid
-    → new ≡ with_created name mid → ((opened : List (List ℕ)) → IsOpenedFor command told result opened → opened ≡ files_in (Ok command)) → Creates (Ok command) status (name ∷ [])
-    → AsksInOrder (Ok command) told status old new
-asks_stored command cert told result name status old mid new before is all creates = record {
+asks_stored : (command : Command) (told : Option Told) (answer : Answer) (name : List ℕ) (status : ℕ) (old mid new : Names) → HasOpened (IsOpenedFor command told (Ok answer)) old mid
+    → new ≡ with_created name mid → Creates (Ok command) status (name ∷ []) → AsksInOrder (Ok command) told status old new
+asks_stored command told answer name status old mid new before is creates = record {
   opened = before.opened;
   created = name ∷ [];
   asked = is ∙ ap (with_created name) before.asked;
   order = before.holds.order;
-  all = λ _ _ _. all before.opened before.holds;
+  all = λ _ _ _. before.holds.all;
   creates = creates;
-  last = inr (all before.opened before.holds);
+  last = inr before.holds.all;
 }
 
 stored_for : (cert name : List ℕ) (s : Searched) (status : ℕ) → name ≡ cert → (status ≡ status_of s) ⊎ (status ≡ 5) → IsCreated cert status (name ∷ [])
@@ -112,13 +111,13 @@ pub asks_given : (command : Command) (told : Option Told) (answer : Answer) (sta
 asks_given (Solves words searching) told (Text ending) status old mid new before is ends =
     says_only (Solves words searching) told (Text ending) status old mid new before is (unsearched_text ending.status status ends before.holds.answers)
 asks_given (Solves words searching) told (Stored name m s) status old mid new before is ends =
-    asks_stored (Solves words searching) searching.cert told (Ok (Stored name m s)) name.now status old mid new before is (λ opened holds. holds.all)
+    asks_stored (Solves words searching) told (Stored name m s) name.now status old mid new before is
     (inr (stored_for searching.cert name.now s status before.holds.answers ends))
 asks_given (Solves words searching) told (SummedUp m s) status old mid new before is ends = absurd before.holds.answers
 asks_given (Resumes words cut searching) told (Text ending) status old mid new before is ends =
     says_only (Resumes words cut searching) told (Text ending) status old mid new before is (unsearched_text ending.status status ends before.holds.answers)
 asks_given (Resumes words cut searching) told (Stored name m s) status old mid new before is ends =
-    asks_stored (Resumes words cut searching) searching.cert told (Ok (Stored name m s)) name.now status old mid new before is (λ opened holds. holds.all)
+    asks_stored (Resumes words cut searching) told (Stored name m s) name.now status old mid new before is
     (inr (stored_for searching.cert name.now s status before.holds.answers ends))
 asks_given (Resumes words cut searching) told (SummedUp m s) status old mid new before is ends = absurd before.holds.answers
 asks_given (Judges words plan) told (Text ending) status old mid new before is ends = says_only (Judges words plan) told (Text ending) status old mid new before is tt
