@@ -94,18 +94,6 @@ not_places mill plan rule count first is =
     let broken : not (nat_eq (length plan.place) (length mill.orders)) ≡ true = subst (λ r. breaks mill plan r ≡ true) is (found (breaks mill plan) (rules_of plan) rule first) in
     grind (arith, broken, count)
 
--- ---- commands
-
-pub same_solve : (command : Command) (words others : MillWords) (searching other : SearchWords) → command ≡ Solves others other → words ≡ others → searching ≡ other → Solves words searching ≡ command
-same_solve command words others searching other e f h = cc
-
-pub same_resume : (command : Command) (words others : MillWords) (cut : List ℕ) (searching other : SearchWords) → command ≡ Resumes others cut other → words ≡ others → searching ≡ other
-    → Resumes words cut searching ≡ command
-same_resume command words others cut searching other e f h = cc
-
-pub same_judge : (command : Command) (words others : MillWords) (plan : List ℕ) → command ≡ Judges others plan → words ≡ others → Judges words plan ≡ command
-same_judge command words others plan e f = cc
-
 -- no run owes the status of a fault or of want of memory
 pub never_stops : (parsed : Parsed Command) (status : ℕ) → MayEnd parsed status → (status ≢ 5) × (status ≢ 6)
 never_stops (Err number) status is = (λ e. omega (arith, is, e), λ e. omega (arith, is, e))
