@@ -42,8 +42,6 @@ more_of_file : {A : Type 0} (source : Source) (reading : List ℕ → Result A T
     → ((value : A) → owes value status o → others value status o) → OwesOfFile source reading owes files name status o → OwesOfFile source reading others files name status o
 more_of_file {A = A} source reading owes others files name status o more owed = named (get files name) owed
   where
-    Fails : TextFault → Type 0
-    Fails fault = Exactly 2 (fault_text source fault) status o
     read : (r : Result A TextFault) → MatchResult r (λ v. owes v status o) (λ fault. Exactly 2 (fault_text source fault) status o)
         → MatchResult r (λ v. others v status o) (λ fault. Exactly 2 (fault_text source fault) status o)
     read (Ok value) owed = more value owed
