@@ -1,6 +1,7 @@
 -- What the parts of a command say of the whole of it.
-use Rattle.std.proofs.Common.{◌≡◌, ◌⊎◌, inl, inr, ℕ, ◌≤◌, Bool, true, false, nat_lt, List, length, Option, Some, None, Result, Ok, Err, IfOk, refl, MatchResult}
+use Rattle.std.proofs.Common.{◌≡◌, ◌⊎◌, inl, inr, ℕ, Bool, true, false, nat_lt, List, length, Option, Some, None, Result, Ok, Err, IfOk, refl, ap, MatchResult}
 use Rattle.std.specs.Bool.{MatchBool}
+use Rattle.std.specs.Borrow.{Bor}
 use Rattle.std.specs.Prelude.{MatchOption}
 use Rattle.std.specs.FinMap.{get}
 use Rattle.std.specs.String.{string_bytes}
@@ -9,7 +10,7 @@ use Rattle.mill_model.specs.Mill.{Mill, with_yard}
 use Rattle.mill_read.specs.declared.fault.TextFault.{TextFault}
 use Rattle.mill_read.specs.OrderFile.{order_file}
 use Rattle.mill_read.specs.YardFile.{yard_file}
-use Rattle.run_words.specs.Words.{MillWords}
+use Rattle.run_words.specs.Words.{MillWords, named_mill}
 use Rattle.run_words.specs.Files.{most_bytes, with_colours}
 use Rattle.run_words.proofs.Telling.{told_each}
 use Rattle.slab_front.specs.declared.texts.Source.{Source}
@@ -17,6 +18,11 @@ use Rattle.slab_front.specs.declared.texts.Source.TheVariants.{Orders, Yard as Y
 use Rattle.slab_front.specs.declared.ending.Answer.{Answer}
 use Rattle.slab_front.specs.declared.ending.Stop.{Stop}
 use Rattle.slab_front.specs.declared.ending.Stop.TheVariants.{Refused, Fault, Memory}
+use Rattle.slab_front.specs.declared.names.MillNames.{MillNames}
+use Rattle.slab_front.specs.declared.names.SearchNames.{SearchNames}
+use Rattle.slab_front.specs.declared.words.Job.{Job}
+use Rattle.slab_front.specs.declared.words.Job.TheVariants.{Solve, Resume, Judge}
+use Rattle.slab_front.specs.Jobs.{command_of, mill_named, search_named}
 use Rattle.slab_front.specs.Words.{Command, SearchWords}
 use Rattle.slab_front.specs.Words.Command.{Solves, Resumes, Judges}
 use Rattle.slab_front.specs.Texts.{long_text, fault_text}
@@ -26,15 +32,32 @@ use Rattle.slab_front.specs.Endings.{HasOnlyRead, IsStop, MayAnswer, status_for}
 
 -- ---- which command it is
 
-pub same_solve : (command : Command) (words others : MillWords) (searching other : SearchWords) → command ≡ Solves others other → words ≡ others → searching ≡ other → Solves words searching ≡ command
-same_solve command words others searching other e f h = cc
+solves : (command : Command) (words others : MillWords) (searching other : SearchWords) → command ≡ Solves others other → words ≡ others → searching ≡ other → Solves words searching ≡ command
+solves command words others searching other e f h = cc
 
-pub same_resume : (command : Command) (words others : MillWords) (cut : List ℕ) (searching other : SearchWords) → command ≡ Resumes others cut other → words ≡ others → searching ≡ other
+resumes : (command : Command) (words others : MillWords) (cut : List ℕ) (searching other : SearchWords) → command ≡ Resumes others cut other → words ≡ others → searching ≡ other
     → Resumes words cut searching ≡ command
-same_resume command words others cut searching other e f h = cc
+resumes command words others cut searching other e f h = cc
 
-pub same_judge : (command : Command) (words others : MillWords) (plan : List ℕ) → command ≡ Judges others plan → words ≡ others → Judges words plan ≡ command
-same_judge command words others plan e f = cc
+judges : (command : Command) (words others : MillWords) (plan : List ℕ) → command ≡ Judges others plan → words ≡ others → Judges words plan ≡ command
+judges command words others plan e f = cc
+
+pub solve_is : {orders cert : Bor (List ℕ)} {yard : Option (Bor (List ℕ))} {nodes colours rounds seed : ℕ} (job : Job) (names : MillNames) (how : SearchNames)
+    → job ≡ Solve orders cert yard nodes colours rounds seed → mill_named names ≡ named_mill orders yard colours
+    → search_named how ≡ record { cert = cert.now; nodes = nodes; rounds = rounds; seed = seed } → Solves (mill_named names) (search_named how) ≡ command_of job
+solve_is {orders = orders} {cert = cert} {yard = yard} {nodes = nodes} {colours = colours} {rounds = rounds} {seed = seed} job names how is e f =
+    solves (command_of job) (mill_named names) (named_mill orders yard colours) (search_named how) (record { cert = cert.now; nodes = nodes; rounds = rounds; seed = seed }) (ap command_of is) e f
+
+pub resume_is : {orders cut cert : Bor (List ℕ)} {yard : Option (Bor (List ℕ))} {nodes colours rounds seed : ℕ} (job : Job) (names : MillNames) (how : SearchNames)
+    → job ≡ Resume orders cut cert yard nodes colours rounds seed → mill_named names ≡ named_mill orders yard colours
+    → search_named how ≡ record { cert = cert.now; nodes = nodes; rounds = rounds; seed = seed } → Resumes (mill_named names) cut.now (search_named how) ≡ command_of job
+resume_is {orders = orders} {cut = cut} {cert = cert} {yard = yard} {nodes = nodes} {colours = colours} {rounds = rounds} {seed = seed} job names how is e f =
+    resumes (command_of job) (mill_named names) (named_mill orders yard colours) cut.now (search_named how) (record { cert = cert.now; nodes = nodes; rounds = rounds; seed = seed }) (ap command_of is) e f
+
+pub judge_is : {orders plan : Bor (List ℕ)} {yard : Option (Bor (List ℕ))} {colours : ℕ} (job : Job) (names : MillNames)
+    → job ≡ Judge orders plan yard colours → mill_named names ≡ named_mill orders yard colours → Judges (mill_named names) plan.now ≡ command_of job
+judge_is {orders = orders} {plan = plan} {yard = yard} {colours = colours} job names is e =
+    judges (command_of job) (mill_named names) (named_mill orders yard colours) plan.now (ap command_of is) e
 
 -- ---- the refusals of its files
 
