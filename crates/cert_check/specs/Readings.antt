@@ -19,6 +19,8 @@ use Rattle.cert_rules.specs.Room.{sum_below, asks_left, below_node, branch_lines
 use Rattle.cert_rules.specs.declared.why.Why.{Why}
 use Rattle.cert_rules.specs.declared.why.Why.TheVariants as why
 use Rattle.mill_model.specs.Columns.{Column}
+use Rattle.cert_check.specs.declared.wanted.Wanted.{Wanted as Asked}
+use Rattle.cert_check.specs.declared.wanted.Wanted.TheVariants as asked
 use Rattle.cert_check.specs.declared.phase.Phase.{Phase}
 use Rattle.cert_check.specs.declared.phase.Phase.TheVariants as phases
 use Rattle.cert_rules.specs.Stands.{IsRunning, HasFailed}
@@ -91,10 +93,10 @@ HasBadLine wanted m bytes = (n : ℕ) × (broken : Why) × HasFailed m wanted by
 
 -- ---- one line
 
--- a reader of cuts, or of all
-abbrev pub wanted_of : Bool → Wanted
-wanted_of true = Cuts
-wanted_of false = All
+-- which certificates a reader takes as good
+abbrev pub wanted_of : Asked → Wanted
+wanted_of asked.All = All
+wanted_of asked.Cuts = Cuts
 
 -- what the machine in a reader is
 pub record Machine : Type 0 where

@@ -9,6 +9,7 @@ ghost use Rattle.cert_check.specs.Verdicts.{said_of, CarriesExceeding, OnFront, 
 use crate::Verdict;
 use crate::ending::Ending;
 use crate::reader::Reader;
+use crate::wanted::Wanted;
 use mill_model::Mill;
 use std::alloc::{AllocError, Global};
 use std::marker::Model;
@@ -40,7 +41,7 @@ impl<'m> Checker<'m> {
         ensures stands { IfOk result (λ c. Stands c []) }
         ensures mill { IfOk result (λ c. c.mill ≡ mill.now) }
     {
-        let reader = Reader::new(alloc, mill, false)?;
+        let reader = Reader::new(alloc, mill, Wanted::All)?;
         Ok(Checker { reader })
     }
 

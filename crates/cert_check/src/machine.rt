@@ -17,6 +17,7 @@ use crate::phase::Phase;
 use crate::spread::{new_share, old_share};
 use crate::staircase::Staircase;
 use crate::tree::{ask_line, can_begin, is_ask, leaf_line};
+use crate::wanted::Wanted;
 use cert_rules::Why;
 use cert_slabs::{Draft, Roster, Tally};
 use cert_view::{Line, Nums};
@@ -28,7 +29,7 @@ use std::alloc::{AllocError, Global};
 #[derive(Drop)]
 pub(crate) struct Machine<'m> {
     mill: &'m Mill,
-    cuts: bool,
+    wanted: Wanted,
     version: Version,
     phase: Phase,
     points: Staircase,
@@ -43,10 +44,14 @@ impl<'m> Machine<'m> {
     ghost use Rattle.cert_check.specs.Seen.{seen};
 
     // A machine before the first line, with all the memory that it ever takes.
-    pub(crate) fn new(alloc: Global, mill: &'m Mill, cuts: bool) -> Result<Machine<'m>, AllocError>
+    pub(crate) fn new(
+        alloc: Global,
+        mill: &'m Mill,
+        wanted: Wanted,
+    ) -> Result<Machine<'m>, AllocError>
         ensures keeps { IfOk result (λ c. Keeps mill.now (seen c).kept Begin) }
         ensures mill { IfOk result (λ c. (seen c).mill ≡ mill.now) }
-        ensures wanted { IfOk result (λ c. (seen c).wanted ≡ wanted_of cuts) }
+        ensures wanted { IfOk result (λ c. (seen c).wanted ≡ wanted_of wanted) }
     {
         let points = Staircase::new(alloc)?;
         let draft = Draft::new(alloc, mill)?;
@@ -55,7 +60,7 @@ impl<'m> Machine<'m> {
         let roster = Roster::new(alloc)?;
         Ok(Machine {
             mill,
-            cuts,
+            wanted,
             version: Version::One,
             phase: Phase::Begin,
             points,
@@ -167,7 +172,7 @@ impl<'m> Machine<'m> {
                 }
             },
             Line::Done => {
-                if self.cuts {
+                if self.wanted == Wanted::Cuts {
                     return Err(Why::Expect);
                 }
                 self.phase = Phase::Tree(true);

@@ -8,7 +8,7 @@ ghost use Rattle.cert_trim.specs.Reads.{IsTrimRead};
 use crate::Trimmed;
 use crate::points::{count_below, trim_head};
 use crate::walk::Walk;
-use cert_check::{CertRead, read_cert};
+use cert_keep::{CertRead, read_cert};
 use mill_model::{Front, Head, Limits, Mill, Steps, Sums};
 use std::alloc::{AllocError, Global};
 

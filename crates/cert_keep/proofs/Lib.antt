@@ -1,0 +1,5 @@
+pub mod Slabbing
+pub mod Rebuilding
+pub mod Gathering
+pub mod Spelling
+pub mod Meanings
