@@ -1,5 +1,5 @@
 //! The line machine: a line after another, and what can stand next.
-ghost use Rattle.std.specs.Prelude.{◌≡◌, Err, [], true, false, IfOk, Some, length, ◌≤◌, if◌then◌else◌};
+ghost use Rattle.std.specs.Prelude.{◌≡◌, [], true, false, IfOk, Some, length, ◌≤◌, if◌then◌else◌};
 ghost use Rattle.cert_check.specs.Held.{HasColumn, IsOver};
 ghost use Rattle.mill_model.specs.Mill.{IsInLimits, most_orders};
 ghost use Rattle.cert_check.specs.Endings.{IsEndingOf};
@@ -10,7 +10,7 @@ ghost use Rattle.cert_rules.specs.States.State.{Begin};
 ghost use Rattle.cert_check.specs.declared.phase.Phase.TheVariants as phases;
 ghost use Rattle.cert_check.specs.Kept.{Keeps};
 ghost use Rattle.cert_check.specs.Lines.{IsNoSlab, IsNoLeaf, IsNoShare, IsNoOpen};
-ghost use Rattle.cert_check.specs.Readings.{HasFound, IsTurn, IsSameReader, wanted_of};
+ghost use Rattle.cert_check.specs.Readings.{FindsColumn, IsTurn, IsSameReader, wanted_of};
 
 use crate::ending::Ending;
 use crate::phase::Phase;
@@ -104,7 +104,8 @@ impl<'m> Machine<'m> {
     // The column that exceeds the leaf that was tested last.
     pub(crate) fn bad_column(&self) -> (Kind, &[u16])
         requires { HasColumn (seen self.now) }
-        ensures column { (seen self.now).bad ≡ Some (record { kind = result.0; orders = result.1.now }) }
+        ensures column { (seen self.now).bad
+            ≡ Some (record { kind = result.0; orders = result.1.now }) }
         ensures few { length result.1.now ≤ most_orders }
     {
         let orders = self.mill.orders().len();
@@ -117,7 +118,7 @@ impl<'m> Machine<'m> {
         requires { IsLine line.now }
         ensures turn { IsTurn (seen self.old) (seen self.new) line.now result }
         ensures same { IsSameReader (seen self.old) (seen self.new) }
-        ensures column { result ≡ Err Why.Column → HasFound (seen self.old) (seen self.new) line.now }
+        ensures column { FindsColumn (seen self.old) (seen self.new) line.now result }
     {
         match self.phase {
             Phase::Begin => self.header(line),
@@ -137,7 +138,7 @@ impl<'m> Machine<'m> {
         requires { self.old.phase ≡ phases.Begin }
         ensures turn { IsTurn (seen self.old) (seen self.new) line.now result }
         ensures same { IsSameReader (seen self.old) (seen self.new) }
-        ensures column { result ≡ Err Why.Column → HasFound (seen self.old) (seen self.new) line.now }
+        ensures column { FindsColumn (seen self.old) (seen self.new) line.now result }
     {
         match line {
             Line::Header => {
@@ -160,7 +161,7 @@ impl<'m> Machine<'m> {
         requires line { IsLine line.now }
         ensures turn { IsTurn (seen self.old) (seen self.new) line.now result }
         ensures same { IsSameReader (seen self.old) (seen self.new) }
-        ensures column { result ≡ Err Why.Column → HasFound (seen self.old) (seen self.new) line.now }
+        ensures column { FindsColumn (seen self.old) (seen self.new) line.now result }
     {
         match line {
             Line::Point(numbers) => match self.points.add(numbers) {
@@ -192,7 +193,7 @@ impl<'m> Machine<'m> {
         requires line { IsLine line.now }
         ensures turn { IsTurn (seen self.old) (seen self.new) line.now result }
         ensures same { IsSameReader (seen self.old) (seen self.new) }
-        ensures column { result ≡ Err Why.Column → HasFound (seen self.old) (seen self.new) line.now }
+        ensures column { FindsColumn (seen self.old) (seen self.new) line.now result }
     {
         match line {
             Line::New(numbers) => self.draft.new_slab(self.mill, &mut self.roster, numbers),
@@ -208,7 +209,7 @@ impl<'m> Machine<'m> {
         requires other { IsNoSlab line.now }
         ensures turn { IsTurn (seen self.old) (seen self.new) line.now result }
         ensures same { IsSameReader (seen self.old) (seen self.new) }
-        ensures column { result ≡ Err Why.Column → HasFound (seen self.old) (seen self.new) line.now }
+        ensures column { FindsColumn (seen self.old) (seen self.new) line.now result }
     {
         if !can_begin(self.version, line) {
             return Err(Why::Expect);
@@ -232,7 +233,7 @@ impl<'m> Machine<'m> {
         requires line { IsLine line.now }
         ensures turn { IsTurn (seen self.old) (seen self.new) line.now result }
         ensures same { IsSameReader (seen self.old) (seen self.new) }
-        ensures column { result ≡ Err Why.Column → HasFound (seen self.old) (seen self.new) line.now }
+        ensures column { FindsColumn (seen self.old) (seen self.new) line.now result }
     {
         match line {
             Line::Leaf(numbers) => self.leaf(rest, numbers),
@@ -251,7 +252,7 @@ impl<'m> Machine<'m> {
         requires other { IsNoLeaf line.now }
         ensures turn { IsTurn (seen self.old) (seen self.new) line.now result }
         ensures same { IsSameReader (seen self.old) (seen self.new) }
-        ensures column { result ≡ Err Why.Column → HasFound (seen self.old) (seen self.new) line.now }
+        ensures column { FindsColumn (seen self.old) (seen self.new) line.now result }
     {
         ask_line(self.mill, &mut self.path, line)
     }
@@ -261,7 +262,8 @@ impl<'m> Machine<'m> {
         requires phase { self.old.phase ≡ phases.Tree rest }
         ensures turn { IsTurn (seen self.old) (seen self.new) (lines.Leaf numbers.now) result }
         ensures same { IsSameReader (seen self.old) (seen self.new) }
-        ensures column { result ≡ Err Why.Column → HasFound (seen self.old) (seen self.new) (lines.Leaf numbers.now) }
+        ensures column { FindsColumn
+            (seen self.old) (seen self.new) (lines.Leaf numbers.now) result }
     {
         let limits = self.points.limits(rest);
         match leaf_line(self.mill, limits, &mut self.path, numbers) {
@@ -283,7 +285,7 @@ impl<'m> Machine<'m> {
         requires other { IsNoLeaf line.now }
         ensures turn { IsTurn (seen self.old) (seen self.new) line.now result }
         ensures same { IsSameReader (seen self.old) (seen self.new) }
-        ensures column { result ≡ Err Why.Column → HasFound (seen self.old) (seen self.new) line.now }
+        ensures column { FindsColumn (seen self.old) (seen self.new) line.now result }
     {
         match line {
             Line::Bare => {
@@ -311,7 +313,7 @@ impl<'m> Machine<'m> {
         requires line { IsLine line.now }
         ensures turn { IsTurn (seen self.old) (seen self.new) line.now result }
         ensures same { IsSameReader (seen self.old) (seen self.new) }
-        ensures column { result ≡ Err Why.Column → HasFound (seen self.old) (seen self.new) line.now }
+        ensures column { FindsColumn (seen self.old) (seen self.new) line.now result }
     {
         match ask_line(self.mill, &mut self.path, line) {
             Err(why) => Err(why),
@@ -328,7 +330,7 @@ impl<'m> Machine<'m> {
         requires line { IsLine line.now }
         ensures turn { IsTurn (seen self.old) (seen self.new) line.now result }
         ensures same { IsSameReader (seen self.old) (seen self.new) }
-        ensures column { result ≡ Err Why.Column → HasFound (seen self.old) (seen self.new) line.now }
+        ensures column { FindsColumn (seen self.old) (seen self.new) line.now result }
     {
         match line {
             Line::CNew(numbers) => {
@@ -360,7 +362,7 @@ impl<'m> Machine<'m> {
         requires other { IsNoShare line.now }
         ensures turn { IsTurn (seen self.old) (seen self.new) line.now result }
         ensures same { IsSameReader (seen self.old) (seen self.new) }
-        ensures column { result ≡ Err Why.Column → HasFound (seen self.old) (seen self.new) line.now }
+        ensures column { FindsColumn (seen self.old) (seen self.new) line.now result }
     {
         if !self.tally.has_begun() || !is_ask(line) {
             return Err(Why::Expect);
@@ -384,7 +386,7 @@ impl<'m> Machine<'m> {
         requires line { IsLine line.now }
         ensures turn { IsTurn (seen self.old) (seen self.new) line.now result }
         ensures same { IsSameReader (seen self.old) (seen self.new) }
-        ensures column { result ≡ Err Why.Column → HasFound (seen self.old) (seen self.new) line.now }
+        ensures column { FindsColumn (seen self.old) (seen self.new) line.now result }
     {
         match line {
             Line::Open => {
@@ -404,7 +406,7 @@ impl<'m> Machine<'m> {
         requires other { IsNoOpen line.now }
         ensures turn { IsTurn (seen self.old) (seen self.new) line.now result }
         ensures same { IsSameReader (seen self.old) (seen self.new) }
-        ensures column { result ≡ Err Why.Column → HasFound (seen self.old) (seen self.new) line.now }
+        ensures column { FindsColumn (seen self.old) (seen self.new) line.now result }
     {
         ask_line(self.mill, &mut self.path, line)
     }

@@ -1,5 +1,5 @@
 //! The reader of a certificate: bytes in pieces, line by line.
-ghost use Rattle.std.specs.Prelude.{◌≡◌, ◌<◌, ◌≤◌, ◌↔◌, ◌++◌, [], ℕ, List, Err, IfErr, IfOk, OnOk, IsTrue, None, is_some, length, take, vec_capacity, if◌then◌else◌};
+ghost use Rattle.std.specs.Prelude.{◌≡◌, ◌<◌, ◌≤◌, ◌↔◌, [], ℕ, List, Err, IfErr, IfOk, OnOk, IsTrue, None, is_some, length, take, vec_capacity, if◌then◌else◌};
 ghost use Rattle.cert_view.specs.Held.{IsPart};
 ghost use Rattle.cert_view.specs.Line.{next_line};
 ghost use Rattle.cert_rules.specs.Reading.{number_after};
@@ -61,7 +61,7 @@ impl<'m> Model for Reader<'m> {
 }
 
 impl<'m> Reader<'m> {
-    ghost use Rattle.cert_check.specs.Readings.{HasBadLine, HasLessRoom, Stands, wanted_of};
+    ghost use Rattle.cert_check.specs.Readings.{HasBadLine, RoomFalls, Stands, StandsOn, wanted_of};
 
     /// A reader that was fed nothing. It takes all the memory that a reader ever takes.
     ///
@@ -88,15 +88,16 @@ impl<'m> Reader<'m> {
     /// Whether a line is bad, so that no further bytes make a certificate that is wanted.
     pub fn failed(&self) -> bool
         ensures value { result ≡ is_some self.now.reading.failed }
-        ensures exact { (bytes : List ℕ) → Stands self.now.reading bytes → (IsTrue result ↔ HasBadLine self.now.reading.wanted self.now.reading.mill bytes) }
+        ensures exact { (bytes : List ℕ) → Stands self.now.reading bytes →
+            (IsTrue result ↔ HasBadLine self.now.reading.wanted self.now.reading.mill bytes) }
     {
         self.failed.is_some()
     }
 
     /// Takes a piece, line by line, until one is bad. However the bytes were cut, the reader stands for all that it was fed.
     pub fn feed(&mut self, piece: &[u8])
-        ensures stands { (bytes : List ℕ) → Stands self.old.reading bytes → Stands self.new.reading (bytes ++ piece.now) }
-        ensures room { (bytes : List ℕ) → Stands self.old.reading bytes → HasLessRoom self.old.reading self.new.reading (length piece.now) }
+        ensures stands { StandsOn self.old.reading self.new.reading piece.now }
+        ensures room { RoomFalls self.old.reading self.new.reading (length piece.now) }
         ensures mill { self.new.reading.mill ≡ self.old.reading.mill }
         ensures wanted { self.new.reading.wanted ≡ self.old.reading.wanted }
     {
@@ -108,8 +109,10 @@ impl<'m> Reader<'m> {
 
     /// What has become of the bytes: how their text has ended, or the first bad line.
     pub fn end(self) -> Result<Ending, Failure>
-        ensures accepted { (bytes : List ℕ) → Stands self.entry.reading bytes → IfOk result (HasAccepted self.entry.reading bytes) }
-        ensures bad { (bytes : List ℕ) → Stands self.entry.reading bytes → IfErr result (λ f. IsBadAt self.entry.reading.mill self.entry.reading.wanted bytes f.line f.why) }
+        ensures accepted { (bytes : List ℕ) → Stands self.entry.reading bytes →
+            IfOk result (HasAccepted self.entry.reading bytes) }
+        ensures bad { (bytes : List ℕ) → Stands self.entry.reading bytes → IfErr result (λ f.
+            IsBadAt self.entry.reading.mill self.entry.reading.wanted bytes f.line f.why) }
         ensures limits { OnOk result (IsInLimits self.entry.reading.mill) }
     {
         let over = is_over(self.machine.phase());
@@ -136,9 +139,10 @@ impl<'m> Reader<'m> {
         requires running { self.old.reading.failed ≡ None }
         ensures within { result ≤ length piece.now }
         ensures moves { 0 < result }
-        ensures stands { (bytes : List ℕ) → Stands self.old.reading bytes → Stands self.new.reading (bytes ++ take result piece.now) }
-        ensures room { (bytes : List ℕ) → Stands self.old.reading bytes → HasLessRoom self.old.reading self.new.reading result }
-        ensures moved { self.new.reading.failed ≡ None → IsMoved self.old.reading.held (take result piece.now) self.new.reading.held self.new.last }
+        ensures stands { StandsOn self.old.reading self.new.reading (take result piece.now) }
+        ensures room { RoomFalls self.old.reading self.new.reading result }
+        ensures moved { self.new.reading.failed ≡ None → IsMoved
+            self.old.reading.held (take result piece.now) self.new.reading.held self.new.last }
         ensures mill { self.new.reading.mill ≡ self.old.reading.mill }
         ensures wanted { self.new.reading.wanted ≡ self.old.reading.wanted }
     {
@@ -156,9 +160,10 @@ impl<'m> Reader<'m> {
         requires open { ¬ IsOver self.old.reading.kept.phase }
         ensures within { result ≤ length piece.now }
         ensures moves { 0 < result }
-        ensures stands { (bytes : List ℕ) → Stands self.old.reading bytes → Stands self.new.reading (bytes ++ take result piece.now) }
-        ensures room { (bytes : List ℕ) → Stands self.old.reading bytes → HasLessRoom self.old.reading self.new.reading result }
-        ensures moved { self.new.reading.failed ≡ None → IsMoved self.old.reading.held (take result piece.now) self.new.reading.held self.new.last }
+        ensures stands { StandsOn self.old.reading self.new.reading (take result piece.now) }
+        ensures room { RoomFalls self.old.reading self.new.reading result }
+        ensures moved { self.new.reading.failed ≡ None → IsMoved
+            self.old.reading.held (take result piece.now) self.new.reading.held self.new.last }
         ensures mill { self.new.reading.mill ≡ self.old.reading.mill }
         ensures wanted { self.new.reading.wanted ≡ self.old.reading.wanted }
     {

@@ -104,6 +104,10 @@ add_old_share mark [] = mark
 add_old_share mark (x ∷ []) = mark
 add_old_share mark (x ∷ s ∷ ns) = add_share mark (record { times = x; kind = Old (index16 s); orders = orders16 ns })
 
+-- a spread's mark, before its first share
+abbrev pub begun_spread : List ℤ → Mark
+begun_spread ns = marks.Spread (record { d = number_at ns 0; shares = [] })
+
 abbrev pub built_pair : List ℤ → Ask
 built_pair ns = asks.Pair (index16 (number_at ns 0)) (index16 (number_at ns 1))
 
@@ -158,7 +162,7 @@ build orders b lines.Cut = record (closed b) { outline = Some [] }
 build orders b lines.Open = add_open_to b b.outline
 build orders b lines.Bare = record b { tree = record b.tree { next = marks.Bare } }
 build orders b lines.Plain = record b { tree = record b.tree { next = marks.Plain } }
-build orders b (lines.Spread ns) = record b { tree = record b.tree { next = marks.Spread (record { d = number_at ns 0; shares = [] }) } }
+build orders b (lines.Spread ns) = record b { tree = record b.tree { next = begun_spread ns } }
 build orders b (lines.CNew ns) = record b { tree = record b.tree { next = add_new_share b.tree.next ns } }
 build orders b (lines.COld ns) = record b { tree = record b.tree { next = add_old_share b.tree.next ns } }
 

@@ -113,7 +113,9 @@ impl Assembly {
     // A point begins.
     fn point(&mut self, alloc: Global, orders: usize, numbers: &Nums<'_>) -> Result<(), AllocError>
         requires { length numbers.now ≡ 2 }
-        ensures { OnOk result (self.new ≡ record (closed self.old) { current = Some (built_sums numbers.now, empty_plan orders) }) }
+        ensures { OnOk result (self.new ≡ record (closed self.old) {
+          current = Some (built_sums numbers.now, empty_plan orders);
+        }) }
     {
         let current = Placing::new(alloc, read_sums(numbers), orders)?;
         self.close(alloc)?;
@@ -123,7 +125,8 @@ impl Assembly {
 
     // A new slab.
     fn new_slab(&mut self, alloc: Global, numbers: &Nums<'_>) -> Result<(), AllocError>
-        ensures { OnOk result (self.new ≡ record self.old { current = add_new self.old.current numbers.now }) }
+        ensures { OnOk result
+            (self.new ≡ record self.old { current = add_new self.old.current numbers.now }) }
     {
         let numbers = copy_numbers(alloc, numbers)?;
         match numbers.as_slice() {
@@ -137,7 +140,8 @@ impl Assembly {
 
     // A surplus slab.
     fn old_slab(&mut self, alloc: Global, numbers: &Nums<'_>) -> Result<(), AllocError>
-        ensures { OnOk result (self.new ≡ record self.old { current = add_old self.old.current numbers.now }) }
+        ensures { OnOk result
+            (self.new ≡ record self.old { current = add_old self.old.current numbers.now }) }
     {
         let numbers = copy_numbers(alloc, numbers)?;
         match numbers.as_slice() {
@@ -151,7 +155,8 @@ impl Assembly {
 
     // A slab of the plan.
     fn slab(&mut self, kind: Kind, orders: &[u16]) -> Result<(), AllocError>
-        ensures { OnOk result (self.new ≡ record self.old { current = add_to_current self.old.current kind orders.now }) }
+        ensures { OnOk result (self.new ≡
+            record self.old { current = add_to_current self.old.current kind orders.now }) }
     {
         match &mut self.current {
             None => Ok(()),
@@ -197,7 +202,8 @@ impl Assembly {
 
     // The certificate that was built.
     pub(crate) fn into_certificate(self) -> CertRead
-        ensures { (m : Mill) (bytes : List ℕ) → IsBuiltFrom m All bytes self → IsCertRead m bytes result }
+        ensures { (m : Mill) (bytes : List ℕ) →
+            IsBuiltFrom m All bytes self → IsCertRead m bytes result }
     {
         let Assembly {
             version,
@@ -217,7 +223,8 @@ impl Assembly {
 
 // A whole certificate of these parts.
 fn whole_certificate(version: Version, head: Head, last: Steps) -> CertRead
-    ensures { (m : Mill) (bytes : List ℕ) → IsSpelledWhole m bytes version head last → IsCertRead m bytes result }
+    ensures { (m : Mill) (bytes : List ℕ) →
+        IsSpelledWhole m bytes version head last → IsCertRead m bytes result }
 {
     if head.points().is_empty() {
         CertRead::NoPlan(version, last)

@@ -48,8 +48,10 @@ impl<'m> CutReader<'m> {
     /// a line is bad, the room that is left falls by as much as is fed, so that feeding ends. After want of memory the
     /// reader is gone. Once a line is bad no memory is taken.
     pub fn feed(self, alloc: Global, piece: &[u8]) -> Result<CutReader<'m>, AllocError>
-        ensures stands { IfOk result (λ c. (bytes : List ℕ) → StandsAsCut self.entry bytes → StandsAsCut c (bytes ++ piece.now)) }
-        ensures room { IfOk result (λ c. (bytes : List ℕ) → StandsAsCut self.entry bytes → CutHasLessRoom self.entry c (length piece.now)) }
+        ensures stands { IfOk result (λ c. (bytes : List ℕ) →
+            StandsAsCut self.entry bytes → StandsAsCut c (bytes ++ piece.now)) }
+        ensures room { IfOk result (λ c. (bytes : List ℕ) →
+            StandsAsCut self.entry bytes → CutHasLessRoom self.entry c (length piece.now)) }
         ensures mill { IfOk result (λ c. c.reading.mill ≡ self.entry.reading.mill) }
         ensures failed { is_some self.entry.reading.failed ≡ true → IsOk result }
     {
@@ -63,7 +65,8 @@ impl<'m> CutReader<'m> {
     /// Whether a line is bad, so that no further bytes make a good cut. A line `done` is one.
     pub fn failed(&self) -> bool
         ensures value { result ≡ is_some self.now.reading.failed }
-        ensures exact { (bytes : List ℕ) → StandsAsCut self.now bytes → (IsTrue result ↔ HasBadLine Cuts self.now.reading.mill bytes) }
+        ensures exact { (bytes : List ℕ) → StandsAsCut self.now bytes →
+            (IsTrue result ↔ HasBadLine Cuts self.now.reading.mill bytes) }
     {
         self.gatherer.failed()
     }
@@ -71,8 +74,10 @@ impl<'m> CutReader<'m> {
     /// What the bytes show that the reader was fed: the points of a good cut exactly where they spell one, else the first bad
     /// line, where `done` can't stand. The points lead to the front.
     pub fn end(self) -> CutRead
-        ensures read { (bytes : List ℕ) → StandsAsCut self.entry bytes → IsCutRead self.entry.reading.mill bytes result }
-        ensures means { (bytes : List ℕ) → StandsAsCut self.entry bytes → CutMeans self.entry.reading.mill result }
+        ensures read { (bytes : List ℕ) → StandsAsCut self.entry bytes →
+            IsCutRead self.entry.reading.mill bytes result }
+        ensures means { (bytes : List ℕ) → StandsAsCut self.entry bytes →
+            CutMeans self.entry.reading.mill result }
     {
         match self.gatherer.end() {
             Err(failure) => CutRead::No {

@@ -1,7 +1,7 @@
 //! A reader that keeps what it reads.
-ghost use Rattle.std.specs.Prelude.{◌≡◌, ◌<◌, ◌≤◌, ◌++◌, [], ℕ, List, IfErr, IfOk, IsOk, None, OnOk, is_some, length, take, true};
+ghost use Rattle.std.specs.Prelude.{◌≡◌, ◌<◌, ◌≤◌, [], IfErr, IfOk, IsOk, None, OnOk, is_some, length, take, true};
 ghost use Rattle.cert_keep.specs.Gathering.{IsBuiltFrom};
-ghost use Rattle.cert_check.specs.Readings.{HasLessRoom, wanted_of};
+ghost use Rattle.cert_check.specs.Readings.{wanted_of};
 ghost use Rattle.cert_check.specs.Verdicts.{IsBadAt};
 
 use crate::assembly::Assembly;
@@ -18,7 +18,7 @@ pub(crate) struct Gatherer<'m> {
 
 impl<'m> Gatherer<'m> {
     ghost use Rattle.std.specs.Prelude.{◌↔◌, IsTrue};
-    ghost use Rattle.cert_keep.specs.Gathering.{Gathers};
+    ghost use Rattle.cert_keep.specs.Gathering.{ForGathered, Gathers, GathersOn, HasLessAfter};
     ghost use Rattle.cert_keep.specs.Parts.{gathered};
     ghost use Rattle.cert_check.specs.Readings.{HasBadLine};
 
@@ -40,15 +40,17 @@ impl<'m> Gatherer<'m> {
     // Whether a line is bad.
     pub(crate) fn failed(&self) -> bool
         ensures value { result ≡ is_some self.now.reader.reading.failed }
-        ensures exact { (bytes : List ℕ) → Gathers self.now.reader.reading.wanted (gathered self.now) bytes → (IsTrue result ↔ HasBadLine self.now.reader.reading.wanted self.now.reader.reading.mill bytes) }
+        ensures exact { ForGathered (gathered self.now) (λ bytes. IsTrue result ↔
+            HasBadLine self.now.reader.reading.wanted self.now.reader.reading.mill bytes) }
     {
         self.reader.failed()
     }
 
     // Takes a piece, line by line, until one is bad.
     pub(crate) fn feed(&mut self, alloc: Global, piece: &[u8]) -> Result<(), AllocError>
-        ensures stands { OnOk result ((bytes : List ℕ) → Gathers self.old.reader.reading.wanted (gathered self.old) bytes → Gathers self.old.reader.reading.wanted (gathered self.new) (bytes ++ piece.now)) }
-        ensures room { OnOk result ((bytes : List ℕ) → Gathers self.old.reader.reading.wanted (gathered self.old) bytes → HasLessRoom self.old.reader.reading self.new.reader.reading (length piece.now)) }
+        ensures stands { OnOk result (GathersOn (gathered self.old) (gathered self.new) piece.now) }
+        ensures room { OnOk result
+            (HasLessAfter (gathered self.old) (gathered self.new) (length piece.now)) }
         ensures mill { self.new.reader.reading.mill ≡ self.old.reader.reading.mill }
         ensures wanted { self.new.reader.reading.wanted ≡ self.old.reader.reading.wanted }
         ensures failed { is_some self.old.reader.reading.failed ≡ true → IsOk result }
@@ -69,8 +71,9 @@ impl<'m> Gatherer<'m> {
         requires running { self.old.reader.reading.failed ≡ None }
         ensures within { IfOk result (λ n. n ≤ length piece.now) }
         ensures moves { IfOk result (λ n. 0 < n) }
-        ensures stands { IfOk result (λ n. (bytes : List ℕ) → Gathers self.old.reader.reading.wanted (gathered self.old) bytes → Gathers self.old.reader.reading.wanted (gathered self.new) (bytes ++ take n piece.now)) }
-        ensures room { IfOk result (λ n. (bytes : List ℕ) → Gathers self.old.reader.reading.wanted (gathered self.old) bytes → HasLessRoom self.old.reader.reading self.new.reader.reading n) }
+        ensures stands { IfOk result (λ n.
+            GathersOn (gathered self.old) (gathered self.new) (take n piece.now)) }
+        ensures room { IfOk result (λ n. HasLessAfter (gathered self.old) (gathered self.new) n) }
         ensures mill { self.new.reader.reading.mill ≡ self.old.reader.reading.mill }
         ensures wanted { self.new.reader.reading.wanted ≡ self.old.reader.reading.wanted }
     {
@@ -90,8 +93,10 @@ impl<'m> Gatherer<'m> {
 
     // What the bytes show: what was built, where they spell a good certificate, or the first bad line.
     pub(crate) fn end(self) -> Result<Assembly, Failure>
-        ensures built { (bytes : List ℕ) → Gathers self.entry.reader.reading.wanted (gathered self.entry) bytes → IfOk result (IsBuiltFrom self.entry.reader.reading.mill self.entry.reader.reading.wanted bytes) }
-        ensures bad { (bytes : List ℕ) → Gathers self.entry.reader.reading.wanted (gathered self.entry) bytes → IfErr result (λ f. IsBadAt self.entry.reader.reading.mill self.entry.reader.reading.wanted bytes f.line f.why) }
+        ensures built { ForGathered (gathered self.entry) (λ bytes. IfOk result (IsBuiltFrom
+            self.entry.reader.reading.mill self.entry.reader.reading.wanted bytes)) }
+        ensures bad { ForGathered (gathered self.entry) (λ bytes. IfErr result (λ f. IsBadAt
+            self.entry.reader.reading.mill self.entry.reader.reading.wanted bytes f.line f.why)) }
     {
         let built = self.built;
         match self.reader.end() {

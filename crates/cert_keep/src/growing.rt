@@ -1,9 +1,8 @@
 //! A marked tree, built from its lines.
-ghost use Rattle.std.specs.Prelude.{◌≡◌, ◌≤◌, [], OnOk, length};
+ghost use Rattle.std.specs.Prelude.{◌≡◌, ◌≤◌, OnOk, length};
 ghost use Rattle.mill_model.specs.declared.mark.Mark.TheVariants as marks;
 ghost use Rattle.mill_model.specs.Trees.{step_of};
-ghost use Rattle.cert_rules.specs.Numbers.{number_at};
-ghost use Rattle.cert_keep.specs.Building.{add_leaf, add_new_share, add_old_share, add_question, add_share, orders16, seedling, tree_of};
+ghost use Rattle.cert_keep.specs.Building.{add_leaf, add_new_share, add_old_share, add_question, add_share, begun_spread, orders16, seedling, tree_of};
 ghost use Rattle.cert_keep.specs.Next.{mark_of};
 
 use crate::numbers::{copy_numbers, index16, list_orders, natural16, read_prices};
@@ -98,14 +97,15 @@ impl Growing {
     // The cover of the next question begins.
     pub(crate) fn spread(&mut self, alloc: Global, numbers: &Nums<'_>)
         requires { length numbers.now ≡ 1 }
-        ensures { self.new ≡ record self.old { next = marks.Spread (record { d = number_at numbers.now 0; shares = [] }) } }
+        ensures { self.new ≡ record self.old { next = begun_spread numbers.now } }
     {
         self.next = Next::Spread(numbers.get(0), Vec::new(alloc));
     }
 
     // A share on a new slab.
     pub(crate) fn new_share(&mut self, alloc: Global, numbers: &Nums<'_>) -> Result<(), AllocError>
-        ensures { OnOk result (self.new ≡ record self.old { next = add_new_share self.old.next numbers.now }) }
+        ensures { OnOk result
+            (self.new ≡ record self.old { next = add_new_share self.old.next numbers.now }) }
     {
         let numbers = copy_numbers(alloc, numbers)?;
         match numbers.as_slice() {
@@ -119,7 +119,8 @@ impl Growing {
 
     // A share on a surplus slab.
     pub(crate) fn old_share(&mut self, alloc: Global, numbers: &Nums<'_>) -> Result<(), AllocError>
-        ensures { OnOk result (self.new ≡ record self.old { next = add_old_share self.old.next numbers.now }) }
+        ensures { OnOk result
+            (self.new ≡ record self.old { next = add_old_share self.old.next numbers.now }) }
     {
         let numbers = copy_numbers(alloc, numbers)?;
         match numbers.as_slice() {
@@ -139,7 +140,10 @@ impl Growing {
         kind: Kind,
         orders: &[i64],
     ) -> Result<(), AllocError>
-        ensures { OnOk result (self.new ≡ record self.old { next = add_share self.old.next (record { times = times; kind = kind; orders = orders16 orders.now }) }) }
+        ensures { OnOk result (self.new ≡ record self.old {
+          next = add_share self.old.next
+              (record { times = times; kind = kind; orders = orders16 orders.now });
+        }) }
     {
         let orders = list_orders(alloc, orders)?;
         add_share(&mut self.next, Share::new(times, kind, orders))

@@ -41,7 +41,8 @@ pub fn read_cert(alloc: Global, mill: &Mill, bytes: &[u8]) -> Result<CertRead, A
 // The certificate, or the first bad line.
 pub(crate) fn what_was_read(gatherer: Gatherer<'_>) -> CertRead
     requires { gatherer.reader.reading.wanted ≡ All }
-    ensures { (bytes : List ℕ) → Gathers All (gathered gatherer.entry) bytes → IsCertRead gatherer.entry.reader.reading.mill bytes result }
+    ensures { (bytes : List ℕ) → Gathers All (gathered gatherer.entry) bytes →
+        IsCertRead gatherer.entry.reader.reading.mill bytes result }
 {
     match gatherer.end() {
         Err(failure) => CertRead::No {
