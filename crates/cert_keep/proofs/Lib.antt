@@ -3,3 +3,4 @@ pub mod Rebuilding
 pub mod Gathering
 pub mod Spelling
 pub mod Meanings
+pub mod Limited

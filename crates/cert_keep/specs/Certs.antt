@@ -1,5 +1,5 @@
 -- A reader of certificates: for which bytes it stands, and how many more it takes.
-use Rattle.std.specs.Prelude.{◌≡◌, ◌⊎◌, ◌||◌, ℕ, ◌+◌, ◌-◌, ◌<◌, ◌≤◌, Bool, true, cond, nat_le, List, length, Option, Some, None, is_none, is_some, unwrap_or}
+use Rattle.std.specs.Prelude.{◌≡◌, ◌⊎◌, ◌||◌, ℕ, ◌+◌, ◌-◌, ◌<◌, ◌≤◌, Bool, List, length, Option, Some, None, SomeIff, is_none, is_some, unwrap_or}
 use Rattle.mill_model.specs.Mill.{Mill, most_certificate_bytes}
 use Rattle.cert_rules.specs.States.Wanted.{All}
 use Rattle.cert_check.specs.Readings.{HasBadLine}
@@ -24,10 +24,10 @@ StandsAsCertBy g (Some left) bytes = (length bytes + left ≡ most_certificate_b
 abbrev pub StandsAsCert : CertReading → List ℕ → Type 0
 StandsAsCert c bytes = StandsAsCertBy c.gathered c.left bytes
 
--- how many can still come after so many more
-abbrev pub left_after : Option ℕ → ℕ → Option ℕ
-left_after None more = None
-left_after (Some left) more = cond (nat_le more left) (Some (left - more)) None
+-- so many can still come after so many more
+abbrev pub IsLeftAfter : Option ℕ → ℕ → Option ℕ → Type 0
+IsLeftAfter None more left = left ≡ None
+IsLeftAfter (Some before) more left = SomeIff left (more ≤ before) (before - more)
 
 -- too many bytes came, or a line is bad
 abbrev pub cert_failed : CertReading → Bool

@@ -1,6 +1,6 @@
 //! The reader of a certificate: bytes come in pieces, and at the end it gives all of it.
 ghost use Rattle.std.specs.Prelude.{◌≡◌, ◌↔◌, ◌++◌, [], true, ℕ, List, IfOk, IsErr, IsOk, IsTrue, length};
-ghost use Rattle.cert_keep.specs.Certs.{left_after};
+ghost use Rattle.cert_keep.specs.Certs.{IsLeftAfter};
 ghost use Rattle.cert_keep.specs.Reads.{IsCertRead, CertMeans};
 
 use crate::CertRead;
@@ -101,7 +101,10 @@ impl<'m> CertReader<'m> {
         ensures exact { (bytes : List ℕ) → StandsAsCert self.now bytes →
             (IsTrue result ↔ IsNoCert self.now.gathered.reading.mill bytes) }
     {
-        self.left.is_none() || self.gatherer.failed()
+        if self.left.is_none() {
+            return true;
+        }
+        self.gatherer.failed()
     }
 
     /// What the bytes show that the reader was fed, as `read_cert` answers it.
@@ -126,7 +129,7 @@ impl<'m> CertReader<'m> {
 
 // How many bytes can still come after so many more.
 fn left_after(left: Option<usize>, more: usize) -> Option<usize>
-    ensures { result ≡ left_after left more }
+    ensures { IsLeftAfter left more result }
 {
     match left {
         None => None,
