@@ -12,16 +12,10 @@ use Rattle.cert_rules.specs.Reading.{IsAccepted}
 use Rattle.cert_rules.specs.Verdicts.{IsVerdict, LeadToTheFront, verdict_of}
 use Rattle.cert_rules.specs.Verdicts.Verdict.{Front, NoPlan, CutOff}
 use Rattle.mill_model.specs.Plans.{Plan, IsLegal}
-use Rattle.mill_model.specs.Fronts.{Point, IsFront, sums_list}
-use Rattle.cert_text.specs.Certificates.{Certificate}
-use Rattle.cert_text.specs.Certificates.Ending.{Whole as WholeEnding, Cut as CutEnding}
+use Rattle.mill_model.specs.Fronts.{IsFront}
 use Rattle.cert_check.specs.declared.verdict.Verdict.{Verdict}
 use Rattle.cert_check.specs.declared.verdict.Verdict.TheVariants as verdicts
-use Rattle.cert_check.specs.declared.verdict.CutRead.{CutRead}
-use Rattle.cert_check.specs.declared.verdict.CutRead.TheVariants as cuts
-use Rattle.cert_check.specs.declared.verdict.CertRead.{CertRead}
-use Rattle.cert_check.specs.declared.verdict.CertRead.TheVariants as certs
-use Rattle.cert_check.specs.Verdicts.{said_of, OnFront, OnNoPlan, OnCut, IsCutRead, IsCertRead, CutMeans, CertMeans}
+use Rattle.cert_check.specs.Verdicts.{said_of, OnFront, OnNoPlan, OnCut}
 use Rattle.cert_rules.proofs.Verdicts.{ends_are_verdicts, verdicts_hold}
 use Rattle.cert_check.specs.declared.ending.Ending.{Ending}
 use Rattle.cert_check.specs.Endings.{HasAccepted, outcome_of, points_of}
@@ -64,21 +58,3 @@ module _ (m : Mill) (bytes : List ℕ) where
   on_cut verdicts.NoPlan h = tt
   on_cut (verdicts.Cut points) h = verdicts_hold m bytes (CutOff points) h
   on_cut (verdicts.No line broken) h = tt
-
-  -- ---- what a reading means
-
-  pub cut_means : (read : CutRead) → IsCutRead m bytes read → CutMeans m read
-  cut_means (cuts.Head points) h = verdicts_hold m bytes (CutOff (sums_list points)) (h.0, h.1, (h.2, ap (λ (ps : List Point). sums_list ps) h.3))
-  cut_means (cuts.No line broken) h = tt
-
-  pub cert_means : (read : CertRead) → IsCertRead m bytes read → CertMeans m read
-  cert_means (certs.Whole version front) h =
-      let c : Certificate = record { version = version; points = front.points; ending = WholeEnding front.last } in
-      verdicts_hold m bytes (Front (sums_list front.points)) (c, h.0, (h.1, refl))
-  cert_means (certs.NoPlan version last) h =
-      let c : Certificate = record { version = version; points = []; ending = WholeEnding last } in
-      verdicts_hold m bytes NoPlan (c, h.0, h.1)
-  cert_means (certs.Cut version head outline) h =
-      let c : Certificate = record { version = version; points = head; ending = CutEnding outline } in
-      verdicts_hold m bytes (CutOff (sums_list head)) (c, h.0, (h.1, refl))
-  cert_means (certs.No line broken) h = tt

@@ -5,7 +5,3 @@ pub mod HeldLines
 pub mod Taking
 pub mod Ends
 pub mod Checked
-pub mod Slabbing
-pub mod Rebuilding
-pub mod Gathering
-pub mod Spelling

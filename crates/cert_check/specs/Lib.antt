@@ -9,9 +9,3 @@ pub mod Machines
 pub mod Seen
 pub mod Held
 pub mod Endings
-pub mod Building
-pub mod Rebuilt
-pub mod Gathering
-pub mod Cuts
-pub mod Next
-pub mod Parts

@@ -1,5 +1,6 @@
 -- The forms of lines, and what a question's line does to the path.
-use Rattle.std.specs.Prelude.{◌≡◌, Bool, true, false, List, []}
+use Rattle.std.specs.Prelude.{◌≡◌, ℤ, Bool, true, false, List, [], ◌∷◌, length, None}
+use Rattle.mill_model.specs.declared.ask.Ask.{Ask}
 use Rattle.mill_model.specs.declared.version.Version.{Version}
 use Rattle.mill_model.specs.declared.version.Version.TheVariants.{One, Two}
 use Rattle.mill_model.specs.Mill.{Mill}
@@ -7,7 +8,9 @@ use Rattle.mill_model.specs.Decisions.{Decision}
 use Rattle.cert_view.specs.declared.line.Line.{Line}
 use Rattle.cert_view.specs.declared.line.Line.TheVariants as lines
 use Rattle.cert_rules.specs.declared.why.Why.{Why}
-use Rattle.cert_rules.specs.Rules.{AllKept, FirstBroken}
+use Rattle.price_check.specs.Path.{Path}
+use Rattle.cert_rules.specs.Questions.{NamesPair, NamesPut, pair_of, put_of, ask_rules}
+use Rattle.cert_rules.specs.Rules.{AllKept, FirstBroken, Rule}
 use Rattle.cert_rules.specs.States.{State}
 use Rattle.cert_rules.specs.Turns.{rules_of, next_of, turn_to_ask}
 
@@ -50,6 +53,17 @@ IsNoShare line = Unit {0}
 abbrev pub IsNoOpen : Line → Type 0
 IsNoOpen lines.Open = ⊥
 IsNoOpen line = Unit {0}
+
+-- the rules of a question that a line's numbers name, of two orders or of an order and a surplus slab
+abbrev pub pair_rules : Mill → List Decision → List ℤ → List Rule
+pair_rules m path ns = ask_rules (NamesPair (length m.orders) ns) path (pair_of ns)
+
+abbrev pub put_rules : Mill → List Decision → List ℤ → List Rule
+put_rules m path ns = ask_rules (NamesPut (length m.orders) (length m.yard) ns) path (put_of ns)
+
+-- the path goes down to the answer yes of a question
+abbrev pub put_yes : Path → Ask → Path
+put_yes path ask = record path { decisions = (ask, true) ∷ path.decisions; bad = None }
 
 -- what a question's line does to the path
 pub record IsAsked (m : Mill) (path next : List Decision) (line : Line) : Type 0 where

@@ -1,5 +1,5 @@
 -- For which bytes a reader stands, and how much more it can take.
-use Rattle.std.specs.Prelude.{◌≡◌, ◌⊎◌, ℕ, ◌+◌, ◌-◌, ◌*◌, ◌≤◌, ℤ, unsigned_abs, Bool, true, false, cond, List, [], length, reverse, slice_index, slice_index_or, Option, Some, None, is_some, Result, Ok, Err}
+use Rattle.std.specs.Prelude.{◌≡◌, ◌⊎◌, ℕ, ◌+◌, ◌-◌, ◌*◌, ◌≤◌, ℤ, unsigned_abs, Bool, true, false, cond, List, [], ◌++◌, length, reverse, slice_index, slice_index_or, Option, Some, None, is_some, Result, Ok, Err}
 use Rattle.mill_model.specs.Mill.{Mill}
 use Rattle.cert_rules.specs.States.{Wanted, State}
 use Rattle.cert_rules.specs.States.Wanted.{All, Cuts}
@@ -19,6 +19,8 @@ use Rattle.cert_rules.specs.Room.{sum_below, asks_left, below_node, branch_lines
 use Rattle.cert_rules.specs.declared.why.Why.{Why}
 use Rattle.cert_rules.specs.declared.why.Why.TheVariants as why
 use Rattle.mill_model.specs.Columns.{Column}
+use Rattle.cert_check.specs.declared.wanted.Wanted.{Wanted as Asked}
+use Rattle.cert_check.specs.declared.wanted.Wanted.TheVariants as asked
 use Rattle.cert_check.specs.declared.phase.Phase.{Phase}
 use Rattle.cert_check.specs.declared.phase.Phase.TheVariants as phases
 use Rattle.cert_rules.specs.Stands.{IsRunning, HasFailed}
@@ -55,6 +57,10 @@ StandsBy wanted r (Some failure) bytes = Fails wanted r.mill failure bytes
 abbrev pub Stands : Reading → List ℕ → Type 0
 Stands r bytes = StandsBy r.wanted r r.failed bytes
 
+-- for whatever bytes the old reader stood, the new one stands for them and these
+abbrev pub StandsOn : Reading → Reading → List ℕ → Type 0
+StandsOn old new fed = (bytes : List ℕ) → Stands old bytes → Stands new (bytes ++ fed)
+
 -- ---- room
 
 -- at most so many good lines can follow
@@ -85,16 +91,20 @@ room r = room_by r r.failed
 abbrev pub HasLessRoom : Reading → Reading → ℕ → Type 0
 HasLessRoom old new fed = (is_some new.failed ≡ true) ⊎ (room new + fed ≤ room old)
 
+-- for whatever bytes the old reader stood, the new one has less room
+abbrev pub RoomFalls : Reading → Reading → ℕ → Type 0
+RoomFalls old new fed = (bytes : List ℕ) → Stands old bytes → HasLessRoom old new fed
+
 -- some line of the bytes is bad, whatever follows
 abbrev pub HasBadLine : Wanted → Mill → List ℕ → Type 0
 HasBadLine wanted m bytes = (n : ℕ) × (broken : Why) × HasFailed m wanted bytes n broken
 
 -- ---- one line
 
--- a reader of cuts, or of all
-abbrev pub wanted_of : Bool → Wanted
-wanted_of true = Cuts
-wanted_of false = All
+-- which certificates a reader takes as good
+abbrev pub wanted_of : Asked → Wanted
+wanted_of asked.All = All
+wanted_of asked.Cuts = Cuts
 
 -- what the machine in a reader is
 pub record Machine : Type 0 where
@@ -124,6 +134,10 @@ pub record HasFound (old new : Machine) (line : Line) : Type 0 where
   pub column : Column
   pub bad : new.bad ≡ Some column
   pub exceeds : IsExceeding old.mill old.kept.path (prices_of (length old.mill.orders) numbers) column
+
+-- a line that is bad for a column that exceeds: the machine has the column
+abbrev pub FindsColumn : Machine → Machine → Line → Result (Unit {0}) Why → Type 0
+FindsColumn old new line result = result ≡ Err why.Column → HasFound old new line
 
 -- what has become of a line
 abbrev pub IsTurn : Machine → Machine → Line → Result (Unit {0}) Why → Type 0

@@ -1,34 +1,24 @@
 -- What a check answers, and what it means.
-use Rattle.std.specs.Prelude.{◌≡◌, ℕ, ℤ, List, [], length, Some, None, Ok}
+use Rattle.std.specs.Prelude.{◌≡◌, ℕ, ℤ, List, [], length, Some, Ok}
 use Rattle.mill_model.specs.declared.sums.Sums.{Sums}
 use Rattle.mill_model.specs.Mill.{Mill}
-use Rattle.mill_model.specs.Plans.{Plan, IsLegal}
-use Rattle.mill_model.specs.Fronts.{IsFront, sums_list}
 use Rattle.mill_model.specs.Columns.{Column}
 use Rattle.mill_model.specs.Decisions.{Decision}
 use Rattle.cert_view.specs.declared.line.Line.{Line}
 use Rattle.cert_view.specs.declared.line.Line.TheVariants as lines
 use Rattle.cert_view.specs.Line.{next_line}
-use Rattle.cert_text.specs.Certificates.{Certificate, ShowsFront, ShowsNoPlan, ShowsCut}
-use Rattle.cert_text.specs.Certificates.Ending.{Whole as WholeEnding, Cut as CutEnding}
-use Rattle.cert_text.specs.Texts.{Spells}
 use Rattle.mill_model.specs.Prices.{prices_of}
 use Rattle.price_check.specs.Exceeding.{IsExceeding}
 use Rattle.cert_rules.specs.States.{Wanted, State}
-use Rattle.cert_rules.specs.States.Wanted.{All, Cuts}
 use Rattle.cert_rules.specs.States.State.{Begin, BetweenPoints, InPlan, InTree, InOpenTree, Ended}
 use Rattle.cert_rules.specs.Turns.{after}
 use Rattle.cert_rules.specs.Reading.{Reads, IsFirstBad, number_after}
-use Rattle.cert_rules.specs.Verdicts.{Verdict as Said, LeadToTheFront}
+use Rattle.cert_rules.specs.Verdicts.{Verdict as Said}
 use Rattle.cert_rules.specs.Verdicts.Verdict.{Front, NoPlan, CutOff, Bad}
 use Rattle.cert_check.specs.declared.line_why.LineWhy.{LineWhy}
 use Rattle.cert_check.specs.declared.line_why.LineWhy.TheVariants as carried
 use Rattle.cert_check.specs.declared.verdict.Verdict.{Verdict}
 use Rattle.cert_check.specs.declared.verdict.Verdict.TheVariants as verdicts
-use Rattle.cert_check.specs.declared.verdict.CutRead.{CutRead}
-use Rattle.cert_check.specs.declared.verdict.CutRead.TheVariants as cuts
-use Rattle.cert_check.specs.declared.verdict.CertRead.{CertRead}
-use Rattle.cert_check.specs.declared.verdict.CertRead.TheVariants as certs
 use Rattle.cert_check.specs.Whys.{why_of}
 
 -- the verdict, with the why alone
@@ -86,32 +76,3 @@ OnCut other P = Unit {0}
 abbrev pub OnNo : Verdict → (ℕ → LineWhy → Type 0) → Type 0
 OnNo (verdicts.No line broken) P = P line broken
 OnNo other P = Unit {0}
-
--- ---- whole certificates
-
--- the bytes spell a good cut with these points, or this is their first bad line for a reader of cuts
-abbrev pub IsCutRead : Mill → List ℕ → CutRead → Type 0
-IsCutRead m bytes (cuts.Head points) = (c : Certificate) × Spells bytes c × ShowsCut m c × (c.points ≡ points)
-IsCutRead m bytes (cuts.No line broken) = IsBadAt m Cuts bytes line broken
-
--- the bytes spell this good certificate, or this is their first bad line
-abbrev pub IsCertRead : Mill → List ℕ → CertRead → Type 0
-IsCertRead m bytes (certs.Whole version front) =
-    let c : Certificate = record { version = version; points = front.points; ending = WholeEnding front.last } in Spells bytes c × ShowsFront m c
-IsCertRead m bytes (certs.NoPlan version last) =
-    let c : Certificate = record { version = version; points = []; ending = WholeEnding last } in Spells bytes c × ShowsNoPlan m c
-IsCertRead m bytes (certs.Cut version head outline) =
-    let c : Certificate = record { version = version; points = head; ending = CutEnding outline } in Spells bytes c × ShowsCut m c
-IsCertRead m bytes (certs.No line broken) = IsBadAt m All bytes line broken
-
--- what the reading of a cut means: its points lead to the front
-abbrev pub CutMeans : Mill → CutRead → Type 0
-CutMeans m (cuts.Head points) = LeadToTheFront m None (sums_list points)
-CutMeans m (cuts.No line broken) = Unit {0}
-
--- what the reading of a certificate means: its points are the Pareto front, no plan is legal, or its points lead to the front
-abbrev pub CertMeans : Mill → CertRead → Type 0
-CertMeans m (certs.Whole version front) = IsFront m (sums_list front.points)
-CertMeans m (certs.NoPlan version last) = (p : Plan) → IsLegal m p → ⊥
-CertMeans m (certs.Cut version head outline) = LeadToTheFront m None (sums_list head)
-CertMeans m (certs.No line broken) = Unit {0}

@@ -9,6 +9,7 @@ ghost use Rattle.cert_check.specs.Verdicts.{said_of, CarriesExceeding, OnFront, 
 use crate::Verdict;
 use crate::ending::Ending;
 use crate::reader::Reader;
+use crate::wanted::Wanted;
 use mill_model::Mill;
 use std::alloc::{AllocError, Global};
 use std::marker::Model;
@@ -40,15 +41,17 @@ impl<'m> Checker<'m> {
         ensures stands { IfOk result (λ c. Stands c []) }
         ensures mill { IfOk result (λ c. c.mill ≡ mill.now) }
     {
-        let reader = Reader::new(alloc, mill, false)?;
+        let reader = Reader::new(alloc, mill, Wanted::All)?;
         Ok(Checker { reader })
     }
 
     /// Takes more bytes. However they were cut, the checker stands for all bytes that it was fed. Unless a line is bad, the
     /// room that is left falls by as much as is fed, so that feeding ends.
     pub fn feed(&mut self, piece: &[u8])
-        ensures stands { (bytes : List ℕ) → Stands self.old bytes → Stands self.new (bytes ++ piece.now) }
-        ensures room { (bytes : List ℕ) → Stands self.old bytes → HasLessRoom self.old self.new (length piece.now) }
+        ensures stands { (bytes : List ℕ) →
+            Stands self.old bytes → Stands self.new (bytes ++ piece.now) }
+        ensures room { (bytes : List ℕ) →
+            Stands self.old bytes → HasLessRoom self.old self.new (length piece.now) }
         ensures mill { self.new.mill ≡ self.old.mill }
     {
         self.reader.feed(piece);
@@ -58,18 +61,24 @@ impl<'m> Checker<'m> {
     /// read, or 8,192 bytes came without a line feed, or a byte follows the end of the text.
     pub fn failed(&self) -> bool
         ensures value { result ≡ is_some self.now.failed }
-        ensures exact { (bytes : List ℕ) → Stands self.now bytes → (IsTrue result ↔ HasBadLine All self.now.mill bytes) }
+        ensures exact { (bytes : List ℕ) → Stands self.now bytes →
+            (IsTrue result ↔ HasBadLine All self.now.mill bytes) }
     {
         self.reader.failed()
     }
 
     /// What the bytes show that the checker was fed, as `check` answers it.
     pub fn end(self) -> Verdict
-        ensures verdict { (bytes : List ℕ) → Stands self.entry bytes → IsVerdict self.entry.mill bytes (said_of result) }
-        ensures front { (bytes : List ℕ) → Stands self.entry bytes → OnFront result (IsFront self.entry.mill) }
-        ensures no_plan { (bytes : List ℕ) → Stands self.entry bytes → OnNoPlan result ((p : Plan) → IsLegal self.entry.mill p → ⊥) }
-        ensures cut { (bytes : List ℕ) → Stands self.entry bytes → OnCut result (LeadToTheFront self.entry.mill None) }
-        ensures column { (bytes : List ℕ) → Stands self.entry bytes → OnNo result (CarriesExceeding self.entry.mill All bytes) }
+        ensures verdict { (bytes : List ℕ) → Stands self.entry bytes →
+            IsVerdict self.entry.mill bytes (said_of result) }
+        ensures front { (bytes : List ℕ) → Stands self.entry bytes →
+            OnFront result (IsFront self.entry.mill) }
+        ensures no_plan { (bytes : List ℕ) → Stands self.entry bytes →
+            OnNoPlan result ((p : Plan) → IsLegal self.entry.mill p → ⊥) }
+        ensures cut { (bytes : List ℕ) → Stands self.entry bytes →
+            OnCut result (LeadToTheFront self.entry.mill None) }
+        ensures column { (bytes : List ℕ) → Stands self.entry bytes →
+            OnNo result (CarriesExceeding self.entry.mill All bytes) }
     {
         match self.reader.end() {
             Err(failure) => Verdict::No {

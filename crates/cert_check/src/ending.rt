@@ -1,8 +1,10 @@
+//! How a text has ended.
+
 use crate::Points;
 
-/// How a text has ended, and the points of its certificate.
+/// How a text that keeps all rules has ended, and the points of its certificate.
 #[derive(Drop)]
-pub(crate) enum Ending {
+pub enum Ending {
     /// A whole certificate.
     Proved(Points),
     /// A cut.

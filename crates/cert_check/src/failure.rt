@@ -1,3 +1,5 @@
+//! The first bad line.
+
 use crate::LineWhy;
 
 /// The first bad line: its number, and why it is bad.

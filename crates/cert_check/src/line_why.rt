@@ -1,3 +1,4 @@
+//! Why a line is bad, with the column that one of the whys carries.
 ghost use Rattle.std.specs.Prelude.{◌≡◌, ◌≢◌, Option};
 
 use cert_rules::Why;

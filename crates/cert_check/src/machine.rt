@@ -1,5 +1,5 @@
 //! The line machine: a line after another, and what can stand next.
-ghost use Rattle.std.specs.Prelude.{◌≡◌, Err, [], true, false, IfOk, Some, length, ◌≤◌, if◌then◌else◌};
+ghost use Rattle.std.specs.Prelude.{◌≡◌, [], true, false, IfOk, Some, length, ◌≤◌, if◌then◌else◌};
 ghost use Rattle.cert_check.specs.Held.{HasColumn, IsOver};
 ghost use Rattle.mill_model.specs.Mill.{IsInLimits, most_orders};
 ghost use Rattle.cert_check.specs.Endings.{IsEndingOf};
@@ -10,13 +10,14 @@ ghost use Rattle.cert_rules.specs.States.State.{Begin};
 ghost use Rattle.cert_check.specs.declared.phase.Phase.TheVariants as phases;
 ghost use Rattle.cert_check.specs.Kept.{Keeps};
 ghost use Rattle.cert_check.specs.Lines.{IsNoSlab, IsNoLeaf, IsNoShare, IsNoOpen};
-ghost use Rattle.cert_check.specs.Readings.{HasFound, IsTurn, IsSameReader, wanted_of};
+ghost use Rattle.cert_check.specs.Readings.{FindsColumn, IsTurn, IsSameReader, wanted_of};
 
 use crate::ending::Ending;
 use crate::phase::Phase;
 use crate::spread::{new_share, old_share};
 use crate::staircase::Staircase;
 use crate::tree::{ask_line, can_begin, is_ask, leaf_line};
+use crate::wanted::Wanted;
 use cert_rules::Why;
 use cert_slabs::{Draft, Roster, Tally};
 use cert_view::{Line, Nums};
@@ -28,7 +29,7 @@ use std::alloc::{AllocError, Global};
 #[derive(Drop)]
 pub(crate) struct Machine<'m> {
     mill: &'m Mill,
-    cuts: bool,
+    wanted: Wanted,
     version: Version,
     phase: Phase,
     points: Staircase,
@@ -43,10 +44,14 @@ impl<'m> Machine<'m> {
     ghost use Rattle.cert_check.specs.Seen.{seen};
 
     // A machine before the first line, with all the memory that it ever takes.
-    pub(crate) fn new(alloc: Global, mill: &'m Mill, cuts: bool) -> Result<Machine<'m>, AllocError>
+    pub(crate) fn new(
+        alloc: Global,
+        mill: &'m Mill,
+        wanted: Wanted,
+    ) -> Result<Machine<'m>, AllocError>
         ensures keeps { IfOk result (λ c. Keeps mill.now (seen c).kept Begin) }
         ensures mill { IfOk result (λ c. (seen c).mill ≡ mill.now) }
-        ensures wanted { IfOk result (λ c. (seen c).wanted ≡ wanted_of cuts) }
+        ensures wanted { IfOk result (λ c. (seen c).wanted ≡ wanted_of wanted) }
     {
         let points = Staircase::new(alloc)?;
         let draft = Draft::new(alloc, mill)?;
@@ -55,7 +60,7 @@ impl<'m> Machine<'m> {
         let roster = Roster::new(alloc)?;
         Ok(Machine {
             mill,
-            cuts,
+            wanted,
             version: Version::One,
             phase: Phase::Begin,
             points,
@@ -99,7 +104,8 @@ impl<'m> Machine<'m> {
     // The column that exceeds the leaf that was tested last.
     pub(crate) fn bad_column(&self) -> (Kind, &[u16])
         requires { HasColumn (seen self.now) }
-        ensures column { (seen self.now).bad ≡ Some (record { kind = result.0; orders = result.1.now }) }
+        ensures column { (seen self.now).bad
+            ≡ Some (record { kind = result.0; orders = result.1.now }) }
         ensures few { length result.1.now ≤ most_orders }
     {
         let orders = self.mill.orders().len();
@@ -112,7 +118,7 @@ impl<'m> Machine<'m> {
         requires { IsLine line.now }
         ensures turn { IsTurn (seen self.old) (seen self.new) line.now result }
         ensures same { IsSameReader (seen self.old) (seen self.new) }
-        ensures column { result ≡ Err Why.Column → HasFound (seen self.old) (seen self.new) line.now }
+        ensures column { FindsColumn (seen self.old) (seen self.new) line.now result }
     {
         match self.phase {
             Phase::Begin => self.header(line),
@@ -132,7 +138,7 @@ impl<'m> Machine<'m> {
         requires { self.old.phase ≡ phases.Begin }
         ensures turn { IsTurn (seen self.old) (seen self.new) line.now result }
         ensures same { IsSameReader (seen self.old) (seen self.new) }
-        ensures column { result ≡ Err Why.Column → HasFound (seen self.old) (seen self.new) line.now }
+        ensures column { FindsColumn (seen self.old) (seen self.new) line.now result }
     {
         match line {
             Line::Header => {
@@ -155,7 +161,7 @@ impl<'m> Machine<'m> {
         requires line { IsLine line.now }
         ensures turn { IsTurn (seen self.old) (seen self.new) line.now result }
         ensures same { IsSameReader (seen self.old) (seen self.new) }
-        ensures column { result ≡ Err Why.Column → HasFound (seen self.old) (seen self.new) line.now }
+        ensures column { FindsColumn (seen self.old) (seen self.new) line.now result }
     {
         match line {
             Line::Point(numbers) => match self.points.add(numbers) {
@@ -167,7 +173,7 @@ impl<'m> Machine<'m> {
                 }
             },
             Line::Done => {
-                if self.cuts {
+                if self.wanted == Wanted::Cuts {
                     return Err(Why::Expect);
                 }
                 self.phase = Phase::Tree(true);
@@ -187,7 +193,7 @@ impl<'m> Machine<'m> {
         requires line { IsLine line.now }
         ensures turn { IsTurn (seen self.old) (seen self.new) line.now result }
         ensures same { IsSameReader (seen self.old) (seen self.new) }
-        ensures column { result ≡ Err Why.Column → HasFound (seen self.old) (seen self.new) line.now }
+        ensures column { FindsColumn (seen self.old) (seen self.new) line.now result }
     {
         match line {
             Line::New(numbers) => self.draft.new_slab(self.mill, &mut self.roster, numbers),
@@ -203,7 +209,7 @@ impl<'m> Machine<'m> {
         requires other { IsNoSlab line.now }
         ensures turn { IsTurn (seen self.old) (seen self.new) line.now result }
         ensures same { IsSameReader (seen self.old) (seen self.new) }
-        ensures column { result ≡ Err Why.Column → HasFound (seen self.old) (seen self.new) line.now }
+        ensures column { FindsColumn (seen self.old) (seen self.new) line.now result }
     {
         if !can_begin(self.version, line) {
             return Err(Why::Expect);
@@ -227,7 +233,7 @@ impl<'m> Machine<'m> {
         requires line { IsLine line.now }
         ensures turn { IsTurn (seen self.old) (seen self.new) line.now result }
         ensures same { IsSameReader (seen self.old) (seen self.new) }
-        ensures column { result ≡ Err Why.Column → HasFound (seen self.old) (seen self.new) line.now }
+        ensures column { FindsColumn (seen self.old) (seen self.new) line.now result }
     {
         match line {
             Line::Leaf(numbers) => self.leaf(rest, numbers),
@@ -246,7 +252,7 @@ impl<'m> Machine<'m> {
         requires other { IsNoLeaf line.now }
         ensures turn { IsTurn (seen self.old) (seen self.new) line.now result }
         ensures same { IsSameReader (seen self.old) (seen self.new) }
-        ensures column { result ≡ Err Why.Column → HasFound (seen self.old) (seen self.new) line.now }
+        ensures column { FindsColumn (seen self.old) (seen self.new) line.now result }
     {
         ask_line(self.mill, &mut self.path, line)
     }
@@ -256,7 +262,8 @@ impl<'m> Machine<'m> {
         requires phase { self.old.phase ≡ phases.Tree rest }
         ensures turn { IsTurn (seen self.old) (seen self.new) (lines.Leaf numbers.now) result }
         ensures same { IsSameReader (seen self.old) (seen self.new) }
-        ensures column { result ≡ Err Why.Column → HasFound (seen self.old) (seen self.new) (lines.Leaf numbers.now) }
+        ensures column { FindsColumn
+            (seen self.old) (seen self.new) (lines.Leaf numbers.now) result }
     {
         let limits = self.points.limits(rest);
         match leaf_line(self.mill, limits, &mut self.path, numbers) {
@@ -278,7 +285,7 @@ impl<'m> Machine<'m> {
         requires other { IsNoLeaf line.now }
         ensures turn { IsTurn (seen self.old) (seen self.new) line.now result }
         ensures same { IsSameReader (seen self.old) (seen self.new) }
-        ensures column { result ≡ Err Why.Column → HasFound (seen self.old) (seen self.new) line.now }
+        ensures column { FindsColumn (seen self.old) (seen self.new) line.now result }
     {
         match line {
             Line::Bare => {
@@ -306,7 +313,7 @@ impl<'m> Machine<'m> {
         requires line { IsLine line.now }
         ensures turn { IsTurn (seen self.old) (seen self.new) line.now result }
         ensures same { IsSameReader (seen self.old) (seen self.new) }
-        ensures column { result ≡ Err Why.Column → HasFound (seen self.old) (seen self.new) line.now }
+        ensures column { FindsColumn (seen self.old) (seen self.new) line.now result }
     {
         match ask_line(self.mill, &mut self.path, line) {
             Err(why) => Err(why),
@@ -323,7 +330,7 @@ impl<'m> Machine<'m> {
         requires line { IsLine line.now }
         ensures turn { IsTurn (seen self.old) (seen self.new) line.now result }
         ensures same { IsSameReader (seen self.old) (seen self.new) }
-        ensures column { result ≡ Err Why.Column → HasFound (seen self.old) (seen self.new) line.now }
+        ensures column { FindsColumn (seen self.old) (seen self.new) line.now result }
     {
         match line {
             Line::CNew(numbers) => {
@@ -355,7 +362,7 @@ impl<'m> Machine<'m> {
         requires other { IsNoShare line.now }
         ensures turn { IsTurn (seen self.old) (seen self.new) line.now result }
         ensures same { IsSameReader (seen self.old) (seen self.new) }
-        ensures column { result ≡ Err Why.Column → HasFound (seen self.old) (seen self.new) line.now }
+        ensures column { FindsColumn (seen self.old) (seen self.new) line.now result }
     {
         if !self.tally.has_begun() || !is_ask(line) {
             return Err(Why::Expect);
@@ -379,7 +386,7 @@ impl<'m> Machine<'m> {
         requires line { IsLine line.now }
         ensures turn { IsTurn (seen self.old) (seen self.new) line.now result }
         ensures same { IsSameReader (seen self.old) (seen self.new) }
-        ensures column { result ≡ Err Why.Column → HasFound (seen self.old) (seen self.new) line.now }
+        ensures column { FindsColumn (seen self.old) (seen self.new) line.now result }
     {
         match line {
             Line::Open => {
@@ -399,7 +406,7 @@ impl<'m> Machine<'m> {
         requires other { IsNoOpen line.now }
         ensures turn { IsTurn (seen self.old) (seen self.new) line.now result }
         ensures same { IsSameReader (seen self.old) (seen self.new) }
-        ensures column { result ≡ Err Why.Column → HasFound (seen self.old) (seen self.new) line.now }
+        ensures column { FindsColumn (seen self.old) (seen self.new) line.now result }
     {
         ask_line(self.mill, &mut self.path, line)
     }

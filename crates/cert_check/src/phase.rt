@@ -1,3 +1,5 @@
+//! What can stand next.
+
 /// What can stand next, where the reading of a certificate stands. In a tree, whether it is the one after `done`.
 #[derive(Clone, Copy, Debug, PartialEq, Eq)]
 pub enum Phase {

@@ -1,3 +1,4 @@
+//! The sums of points.
 ghost use Rattle.std.specs.Prelude.{◌≡◌};
 
 use mill_model::Sums;

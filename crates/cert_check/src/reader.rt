@@ -1,5 +1,5 @@
-//! Bytes in pieces, line by line.
-ghost use Rattle.std.specs.Prelude.{◌≡◌, ◌<◌, ◌≤◌, ◌↔◌, ◌++◌, [], ℕ, List, Err, IfErr, IfOk, OnOk, IsTrue, None, is_some, length, take, vec_capacity, if◌then◌else◌};
+//! The reader of a certificate: bytes in pieces, line by line.
+ghost use Rattle.std.specs.Prelude.{◌≡◌, ◌<◌, ◌≤◌, ◌↔◌, [], ℕ, List, Err, IfErr, IfOk, OnOk, IsTrue, None, is_some, length, take, vec_capacity, if◌then◌else◌};
 ghost use Rattle.cert_view.specs.Held.{IsPart};
 ghost use Rattle.cert_view.specs.Line.{next_line};
 ghost use Rattle.cert_rules.specs.Reading.{number_after};
@@ -16,6 +16,7 @@ use crate::ending::Ending;
 use crate::failure::Failure;
 use crate::machine::Machine;
 use crate::phase::Phase;
+use crate::wanted::Wanted;
 use crate::{LineWhy, OrderList};
 use cert_rules::Why;
 use cert_view::{Line, LineBuf, Spelling};
@@ -23,9 +24,10 @@ use mill_model::{MOST_ORDERS, Mill};
 use std::alloc::{AllocError, Global};
 use std::marker::Model;
 
-/// A machine, the line that is coming in, and the first bad line if there was one.
+/// A reader of a certificate that comes in pieces: it tests one line after another, and shows each that keeps its rules. It
+/// keeps one line, the points so far, the plan that is being read, the path down the tree and the sums of a spread.
 #[derive(Drop)]
-pub(crate) struct Reader<'m> {
+pub struct Reader<'m> {
     machine: Machine<'m>,
     held: LineBuf,
     // whether the held line is whole and keeps its rules
@@ -59,15 +61,19 @@ impl<'m> Model for Reader<'m> {
 }
 
 impl<'m> Reader<'m> {
-    ghost use Rattle.cert_check.specs.Readings.{HasBadLine, HasLessRoom, Stands, wanted_of};
+    ghost use Rattle.cert_check.specs.Readings.{HasBadLine, RoomFalls, Stands, StandsOn, wanted_of};
 
-    // A reader that was fed nothing.
-    pub(crate) fn new(alloc: Global, mill: &'m Mill, cuts: bool) -> Result<Reader<'m>, AllocError>
+    /// A reader that was fed nothing. It takes all the memory that a reader ever takes.
+    ///
+    /// # Errors
+    ///
+    /// Want of memory.
+    pub fn new(alloc: Global, mill: &'m Mill, wanted: Wanted) -> Result<Reader<'m>, AllocError>
         ensures stands { IfOk result (λ c. Stands c.reading []) }
         ensures mill { IfOk result (λ c. c.reading.mill ≡ mill.now) }
-        ensures wanted { IfOk result (λ c. c.reading.wanted ≡ wanted_of cuts) }
+        ensures wanted { IfOk result (λ c. c.reading.wanted ≡ wanted_of wanted) }
     {
-        let machine = Machine::new(alloc, mill, cuts)?;
+        let machine = Machine::new(alloc, mill, wanted)?;
         let spare = Vec::with_capacity(alloc, usize::from(MOST_ORDERS))?;
         Ok(Reader {
             machine,
@@ -79,18 +85,19 @@ impl<'m> Reader<'m> {
         })
     }
 
-    // Whether a line is bad.
-    pub(crate) fn failed(&self) -> bool
+    /// Whether a line is bad, so that no further bytes make a certificate that is wanted.
+    pub fn failed(&self) -> bool
         ensures value { result ≡ is_some self.now.reading.failed }
-        ensures exact { (bytes : List ℕ) → Stands self.now.reading bytes → (IsTrue result ↔ HasBadLine self.now.reading.wanted self.now.reading.mill bytes) }
+        ensures exact { (bytes : List ℕ) → Stands self.now.reading bytes →
+            (IsTrue result ↔ HasBadLine self.now.reading.wanted self.now.reading.mill bytes) }
     {
         self.failed.is_some()
     }
 
-    // Takes a piece, line by line, until one is bad.
-    pub(crate) fn feed(&mut self, piece: &[u8])
-        ensures stands { (bytes : List ℕ) → Stands self.old.reading bytes → Stands self.new.reading (bytes ++ piece.now) }
-        ensures room { (bytes : List ℕ) → Stands self.old.reading bytes → HasLessRoom self.old.reading self.new.reading (length piece.now) }
+    /// Takes a piece, line by line, until one is bad. However the bytes were cut, the reader stands for all that it was fed.
+    pub fn feed(&mut self, piece: &[u8])
+        ensures stands { StandsOn self.old.reading self.new.reading piece.now }
+        ensures room { RoomFalls self.old.reading self.new.reading (length piece.now) }
         ensures mill { self.new.reading.mill ≡ self.old.reading.mill }
         ensures wanted { self.new.reading.wanted ≡ self.old.reading.wanted }
     {
@@ -100,10 +107,12 @@ impl<'m> Reader<'m> {
         }
     }
 
-    // What has become of the bytes: where their text has ended, or the first bad line.
-    pub(crate) fn end(self) -> Result<Ending, Failure>
-        ensures accepted { (bytes : List ℕ) → Stands self.entry.reading bytes → IfOk result (HasAccepted self.entry.reading bytes) }
-        ensures bad { (bytes : List ℕ) → Stands self.entry.reading bytes → IfErr result (λ f. IsBadAt self.entry.reading.mill self.entry.reading.wanted bytes f.line f.why) }
+    /// What has become of the bytes: how their text has ended, or the first bad line.
+    pub fn end(self) -> Result<Ending, Failure>
+        ensures accepted { (bytes : List ℕ) → Stands self.entry.reading bytes →
+            IfOk result (HasAccepted self.entry.reading bytes) }
+        ensures bad { (bytes : List ℕ) → Stands self.entry.reading bytes → IfErr result (λ f.
+            IsBadAt self.entry.reading.mill self.entry.reading.wanted bytes f.line f.why) }
         ensures limits { OnOk result (IsInLimits self.entry.reading.mill) }
     {
         let over = is_over(self.machine.phase());
@@ -124,15 +133,16 @@ impl<'m> Reader<'m> {
         }
     }
 
-    // Takes some bytes of a piece, up to the end of a line, and answers how many.
-    pub(crate) fn take(&mut self, piece: &[u8]) -> usize
+    /// Takes some bytes of a piece, up to the end of a line, and answers how many. A reader that runs on then shows that line.
+    pub fn take(&mut self, piece: &[u8]) -> usize
         requires some { 0 < length piece.now }
         requires running { self.old.reading.failed ≡ None }
         ensures within { result ≤ length piece.now }
         ensures moves { 0 < result }
-        ensures stands { (bytes : List ℕ) → Stands self.old.reading bytes → Stands self.new.reading (bytes ++ take result piece.now) }
-        ensures room { (bytes : List ℕ) → Stands self.old.reading bytes → HasLessRoom self.old.reading self.new.reading result }
-        ensures moved { self.new.reading.failed ≡ None → IsMoved self.old.reading.held (take result piece.now) self.new.reading.held self.new.last }
+        ensures stands { StandsOn self.old.reading self.new.reading (take result piece.now) }
+        ensures room { RoomFalls self.old.reading self.new.reading result }
+        ensures moved { self.new.reading.failed ≡ None → IsMoved
+            self.old.reading.held (take result piece.now) self.new.reading.held self.new.last }
         ensures mill { self.new.reading.mill ≡ self.old.reading.mill }
         ensures wanted { self.new.reading.wanted ≡ self.old.reading.wanted }
     {
@@ -150,9 +160,10 @@ impl<'m> Reader<'m> {
         requires open { ¬ IsOver self.old.reading.kept.phase }
         ensures within { result ≤ length piece.now }
         ensures moves { 0 < result }
-        ensures stands { (bytes : List ℕ) → Stands self.old.reading bytes → Stands self.new.reading (bytes ++ take result piece.now) }
-        ensures room { (bytes : List ℕ) → Stands self.old.reading bytes → HasLessRoom self.old.reading self.new.reading result }
-        ensures moved { self.new.reading.failed ≡ None → IsMoved self.old.reading.held (take result piece.now) self.new.reading.held self.new.last }
+        ensures stands { StandsOn self.old.reading self.new.reading (take result piece.now) }
+        ensures room { RoomFalls self.old.reading self.new.reading result }
+        ensures moved { self.new.reading.failed ≡ None → IsMoved
+            self.old.reading.held (take result piece.now) self.new.reading.held self.new.last }
         ensures mill { self.new.reading.mill ≡ self.old.reading.mill }
         ensures wanted { self.new.reading.wanted ≡ self.old.reading.wanted }
     {
@@ -173,15 +184,15 @@ impl<'m> Reader<'m> {
         taken
     }
 
-    // How many orders the mill has.
-    pub(crate) fn orders(&self) -> usize
+    /// How many orders the mill has.
+    pub fn orders(&self) -> usize
         ensures { result ≡ length self.now.reading.mill.orders }
     {
         self.machine.orders()
     }
 
-    // The line that the last bytes ended, if it keeps its rules.
-    pub(crate) fn last(&self) -> Option<Line<'_>>
+    /// The line that the last bytes ended, if it keeps its rules.
+    pub fn last(&self) -> Option<Line<'_>>
         ensures line { result ≡ self.now.last }
     {
         if !self.taken {

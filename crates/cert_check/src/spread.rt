@@ -1,10 +1,8 @@
 //! Lines of shares: the code that the line machine calls in a spread.
-ghost use Rattle.std.specs.Prelude.{◌≡◌, ◌≢◌, Err, ◌≤◌, ◌++◌, ◌∷◌, [], List, OnOk, length, unsigned_abs};
-ghost use Rattle.mill_model.specs.Shares.{Share};
+ghost use Rattle.std.specs.Prelude.{◌≡◌, ◌≢◌, Err, ◌≤◌, OnOk, length, unsigned_abs};
 ghost use Rattle.cert_rules.specs.Spreads.{share_of_new, share_of_old, new_share_rules, old_share_rules};
 ghost use Rattle.cert_slabs.specs.Answers.{Answers, IsShare, share_of};
-ghost use Rattle.cert_slabs.specs.Tallies.{IsTally};
-ghost use Rattle.cert_check.specs.Sharing.{share_rules};
+ghost use Rattle.cert_check.specs.Sharing.{share_rules, ForShares, Joins};
 
 use cert_rules::Why;
 use cert_slabs::{Roster, Tally, read_new_share, read_old_share};
@@ -24,10 +22,11 @@ pub(crate) fn new_share(
     requires path { path.now.orders ≡ length mill.now.orders }
     requires orders { length tally.old.covered ≡ length mill.now.orders }
     requires slabs { length tally.old.used ≡ length mill.now.yard }
-    ensures rules { (shares : List Share) → IsTally mill.now tally.old.d shares tally.old →
-        Answers (new_share_rules mill.now path.now.decisions (unsigned_abs tally.old.d) shares numbers.now) result }
-    ensures tally { OnOk result ((shares : List Share) → IsTally mill.now tally.old.d shares tally.old →
-        IsTally mill.now tally.old.d (shares ++ share_of_new numbers.now ∷ []) tally.new) }
+    ensures rules { ForShares mill.now tally.old (λ shares. Answers
+        (new_share_rules mill.now path.now.decisions (unsigned_abs tally.old.d) shares numbers.now)
+        result) }
+    ensures tally { OnOk result
+        (Joins mill.now tally.old tally.new (share_of_new numbers.now)) }
     ensures orders { length tally.new.covered ≡ length mill.now.orders }
     ensures slabs { length tally.new.used ≡ length mill.now.yard }
     ensures other { result ≢ Err Why.Column }
@@ -50,10 +49,11 @@ pub(crate) fn old_share(
     requires path { path.now.orders ≡ length mill.now.orders }
     requires orders { length tally.old.covered ≡ length mill.now.orders }
     requires slabs { length tally.old.used ≡ length mill.now.yard }
-    ensures rules { (shares : List Share) → IsTally mill.now tally.old.d shares tally.old →
-        Answers (old_share_rules mill.now path.now.decisions (unsigned_abs tally.old.d) shares numbers.now) result }
-    ensures tally { OnOk result ((shares : List Share) → IsTally mill.now tally.old.d shares tally.old →
-        IsTally mill.now tally.old.d (shares ++ share_of_old numbers.now ∷ []) tally.new) }
+    ensures rules { ForShares mill.now tally.old (λ shares. Answers
+        (old_share_rules mill.now path.now.decisions (unsigned_abs tally.old.d) shares numbers.now)
+        result) }
+    ensures tally { OnOk result
+        (Joins mill.now tally.old tally.new (share_of_old numbers.now)) }
     ensures orders { length tally.new.covered ≡ length mill.now.orders }
     ensures slabs { length tally.new.used ≡ length mill.now.yard }
     ensures other { result ≢ Err Why.Column }
@@ -77,10 +77,11 @@ fn add_share(
     requires path { path.now.orders ≡ length mill.now.orders }
     requires orders { length tally.old.covered ≡ length mill.now.orders }
     requires slabs { length tally.old.used ≡ length mill.now.yard }
-    ensures rules { (shares : List Share) → IsTally mill.now tally.old.d shares tally.old →
-        Answers (share_rules mill.now path.now.decisions (unsigned_abs tally.old.d) shares (share_of times kind roster.now)) result }
-    ensures tally { OnOk result ((shares : List Share) → IsTally mill.now tally.old.d shares tally.old →
-        IsTally mill.now tally.old.d (shares ++ share_of times kind roster.now ∷ []) tally.new) }
+    ensures rules { ForShares mill.now tally.old (λ shares. Answers
+        (share_rules mill.now path.now.decisions (unsigned_abs tally.old.d) shares
+        (share_of times kind roster.now)) result) }
+    ensures tally { OnOk result
+        (Joins mill.now tally.old tally.new (share_of times kind roster.now)) }
     ensures orders { length tally.new.covered ≡ length mill.now.orders }
     ensures slabs { length tally.new.used ≡ length mill.now.yard }
     ensures other { result ≢ Err Why.Column }

@@ -10,17 +10,9 @@ ghost use Rattle.cert_check.specs.Kept.{owner_of};
 use crate::Points;
 use cert_rules::Why;
 use cert_view::Nums;
-use mill_model::{Limits, Sums};
+use mill_model::{Limits, MOST_COUNT, MOST_LOSS, MOST_POINTS, Sums};
 use std::alloc::{AllocError, Global};
 use std::marker::Model;
-
-// The counts of points fall from 250 at most to 0 at least.
-const MOST_POINTS: usize = 251;
-
-// The greatest loss and the greatest count that a point's line may have.
-const MOST_LOSS: i64 = 2_500_000;
-
-const MOST_COUNT: i64 = 250;
 
 /// The sums of points whose losses rise and whose counts fall, the earliest first.
 #[derive(Drop)]
@@ -53,7 +45,8 @@ impl Staircase {
     pub(crate) fn add(&mut self, numbers: &Nums<'_>) -> Result<(), Why>
         requires { length numbers.now ≡ 2 }
         ensures rules { Answers (point_rules (latest (reverse self.old)) numbers.now) result }
-        ensures points { OnOk result (reverse self.new ≡ sums_of_line numbers.now ∷ reverse self.old) }
+        ensures points { OnOk result
+            (reverse self.new ≡ sums_of_line numbers.now ∷ reverse self.old) }
         ensures other { result ≢ Err Why.Column }
     {
         let Some(sums) = read_sums(numbers) else {
@@ -114,7 +107,7 @@ fn read_sums(numbers: &Nums<'_>) -> Option<Sums>
 {
     let loss = numbers.get(0);
     let count = numbers.get(1);
-    if loss < 0 || loss > MOST_LOSS || count < 0 || count > MOST_COUNT {
+    if loss < 0 || loss > i64::from(MOST_LOSS) || count < 0 || count > i64::from(MOST_COUNT) {
         return None;
     }
     Some(Sums {

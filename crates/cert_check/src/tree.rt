@@ -1,12 +1,12 @@
 //! Lines of a tree against the path: the code that the line machine calls there.
-ghost use Rattle.std.specs.Prelude.{◌≡◌, ◌≢◌, ◌≤◌, ◌∷◌, true, None, Ok, Err, IfErr, IfOk, OnOk, IfSome, IfNone, IsSome, length};
+ghost use Rattle.std.specs.Prelude.{◌≡◌, ◌≢◌, ◌≤◌, Ok, Err, IfErr, IfOk, OnOk, IfSome, IfNone, IsSome, length};
 ghost use Rattle.cert_view.specs.Text.{IsLine};
 ghost use Rattle.mill_model.specs.Mill.{most_orders, most_slabs};
 ghost use Rattle.mill_model.specs.Prices.{prices_of};
 ghost use Rattle.price_check.specs.Exceeding.{IsExceeding};
-ghost use Rattle.cert_check.specs.Lines.{can_begin, is_ask, IsAsked, IsNotAsked};
+ghost use Rattle.cert_check.specs.Lines.{can_begin, is_ask, pair_rules, put_rules, put_yes, IsAsked, IsNotAsked};
 ghost use Rattle.cert_rules.specs.Rules.{AllKept, FirstBroken};
-ghost use Rattle.cert_rules.specs.Questions.{NamesPair, NamesPut, pair_of, put_of, ask_rules};
+ghost use Rattle.cert_rules.specs.Questions.{NamesPair, NamesPut, pair_of, put_of};
 ghost use Rattle.cert_rules.specs.Leaves.{leaf_rules};
 ghost use Rattle.cert_check.specs.Whys.{leaf_why};
 
@@ -57,7 +57,8 @@ pub(crate) fn ask_line(mill: &Mill, path: &mut Path, line: &Line<'_>) -> Result<
 fn named_pair(orders: usize, numbers: &Nums<'_>) -> Option<Ask>
     requires few { orders ≤ most_orders }
     requires count { length numbers.now ≡ 2 }
-    ensures named { IfSome result (λ ask. NamesPair orders numbers.now × (ask ≡ pair_of numbers.now)) }
+    ensures named { IfSome result (λ ask.
+        NamesPair orders numbers.now × (ask ≡ pair_of numbers.now)) }
     ensures unnamed { IfNone result (NamesPair orders numbers.now → ⊥) }
 {
     let i = numbers.get(0);
@@ -74,9 +75,9 @@ pub(crate) fn pair_line(mill: &Mill, path: &mut Path, numbers: &Nums<'_>) -> Res
     requires count { length numbers.now ≡ 2 }
     requires orders { path.old.orders ≡ length mill.now.orders }
     requires slabs { path.old.slabs ≡ length mill.now.yard }
-    ensures good { OnOk result (AllKept (ask_rules (NamesPair (length mill.now.orders) numbers.now) path.old.decisions (pair_of numbers.now))
-        × (path.new ≡ record path.old { decisions = (pair_of numbers.now, true) ∷ path.old.decisions; bad = None })) }
-    ensures bad { IfErr result (FirstBroken (ask_rules (NamesPair (length mill.now.orders) numbers.now) path.old.decisions (pair_of numbers.now))) }
+    ensures good { OnOk result (AllKept (pair_rules mill.now path.old.decisions numbers.now)
+        × (path.new ≡ put_yes path.old (pair_of numbers.now))) }
+    ensures bad { IfErr result (FirstBroken (pair_rules mill.now path.old.decisions numbers.now)) }
     ensures orders { path.new.orders ≡ path.old.orders }
     ensures slabs { path.new.slabs ≡ path.old.slabs }
     ensures other { result ≢ Err Why.Column }
@@ -95,7 +96,8 @@ fn named_put(orders: usize, slabs: usize, numbers: &Nums<'_>) -> Option<Ask>
     requires few { orders ≤ most_orders }
     requires fewer { slabs ≤ most_slabs }
     requires count { length numbers.now ≡ 2 }
-    ensures named { IfSome result (λ ask. NamesPut orders slabs numbers.now × (ask ≡ put_of numbers.now)) }
+    ensures named { IfSome result (λ ask.
+        NamesPut orders slabs numbers.now × (ask ≡ put_of numbers.now)) }
     ensures unnamed { IfNone result (NamesPut orders slabs numbers.now → ⊥) }
 {
     let o = numbers.get(0);
@@ -112,9 +114,9 @@ pub(crate) fn put_line(mill: &Mill, path: &mut Path, numbers: &Nums<'_>) -> Resu
     requires count { length numbers.now ≡ 2 }
     requires orders { path.old.orders ≡ length mill.now.orders }
     requires slabs { path.old.slabs ≡ length mill.now.yard }
-    ensures good { OnOk result (AllKept (ask_rules (NamesPut (length mill.now.orders) (length mill.now.yard) numbers.now) path.old.decisions (put_of numbers.now))
-        × (path.new ≡ record path.old { decisions = (put_of numbers.now, true) ∷ path.old.decisions; bad = None })) }
-    ensures bad { IfErr result (FirstBroken (ask_rules (NamesPut (length mill.now.orders) (length mill.now.yard) numbers.now) path.old.decisions (put_of numbers.now))) }
+    ensures good { OnOk result (AllKept (put_rules mill.now path.old.decisions numbers.now)
+        × (path.new ≡ put_yes path.old (put_of numbers.now))) }
+    ensures bad { IfErr result (FirstBroken (put_rules mill.now path.old.decisions numbers.now)) }
     ensures orders { path.new.orders ≡ path.old.orders }
     ensures slabs { path.new.slabs ≡ path.old.slabs }
     ensures other { result ≢ Err Why.Column }
@@ -137,11 +139,14 @@ pub(crate) fn leaf_line(
 ) -> Result<(), Why>
     requires orders { path.old.orders ≡ length mill.now.orders }
     requires slabs { path.old.slabs ≡ length mill.now.yard }
-    ensures good { OnOk result (AllKept (leaf_rules mill.now limits path.old.decisions numbers.now)) }
-    ensures bad { IfErr result (FirstBroken (leaf_rules mill.now limits path.old.decisions numbers.now)) }
+    ensures good { OnOk result (AllKept
+        (leaf_rules mill.now limits path.old.decisions numbers.now)) }
+    ensures bad { IfErr result (FirstBroken
+        (leaf_rules mill.now limits path.old.decisions numbers.now)) }
     ensures path { path.new ≡ record path.old { bad = path.new.bad } }
     ensures found { result ≡ Err Why.Column → IsSome path.new.bad }
-    ensures exceeds { IfSome path.new.bad (IsExceeding mill.now path.old.decisions (prices_of (length mill.now.orders) numbers.now)) }
+    ensures exceeds { IfSome path.new.bad (IsExceeding mill.now path.old.decisions
+        (prices_of (length mill.now.orders) numbers.now)) }
 {
     match path.leaf_ok(mill, limits, numbers) {
         Ok(()) => Ok(()),

@@ -39,7 +39,8 @@ impl Colours {
     // Adds a colour, unless it would be one more than so many.
     pub(crate) fn add(&mut self, colour: u16, limit: u16) -> bool
         requires { limit ≤ most_colour_limit }
-        ensures added { OnTrue result (self.new ≡ cond (has self.old colour) self.old (self.old ++ colour ∷ [])) }
+        ensures added { OnTrue result (self.new
+            ≡ cond (has self.old colour) self.old (self.old ++ colour ∷ [])) }
         ensures few { length self.old ≤ limit → length self.new ≤ limit }
         ensures full { OnFalse result ((has self.old colour ≡ false) × (limit ≤ length self.old)) }
     {

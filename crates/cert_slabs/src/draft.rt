@@ -51,7 +51,8 @@ impl Draft {
 
     /// Takes all slabs off.
     pub fn clear(&mut self)
-        ensures draft { (m : Mill) → length self.old.placed ≡ length m.orders → IsDraft m [] self.new }
+        ensures draft { (m : Mill) →
+            length self.old.placed ≡ length m.orders → IsDraft m [] self.new }
         ensures orders { length self.new.placed ≡ length self.old.placed }
     {
         self.kinds.clear();
@@ -70,8 +71,10 @@ impl Draft {
     ) -> Result<(), Why>
         requires count { 2 ≤ length numbers.now }
         requires orders { length self.old.placed ≡ length mill.now.orders }
-        ensures rules { (slabs : List Column) → IsDraft mill.now slabs self.old → Answers (new_rules mill.now slabs numbers.now) result }
-        ensures draft { OnOk result ((slabs : List Column) → IsDraft mill.now slabs self.old → IsDraft mill.now (slabs ++ new_slab_of numbers.now ∷ []) self.new) }
+        ensures rules { (slabs : List Column) → IsDraft mill.now slabs self.old →
+            Answers (new_rules mill.now slabs numbers.now) result }
+        ensures draft { OnOk result ((slabs : List Column) → IsDraft mill.now slabs self.old →
+            IsDraft mill.now (slabs ++ new_slab_of numbers.now ∷ []) self.new) }
         ensures orders { length self.new.placed ≡ length mill.now.orders }
         ensures other { result ≢ Err Why.Column }
     {
@@ -96,8 +99,10 @@ impl Draft {
     ) -> Result<(), Why>
         requires count { 2 ≤ length numbers.now }
         requires orders { length self.old.placed ≡ length mill.now.orders }
-        ensures rules { (slabs : List Column) → IsDraft mill.now slabs self.old → Answers (old_rules mill.now slabs numbers.now) result }
-        ensures draft { OnOk result ((slabs : List Column) → IsDraft mill.now slabs self.old → IsDraft mill.now (slabs ++ old_slab_of numbers.now ∷ []) self.new) }
+        ensures rules { (slabs : List Column) → IsDraft mill.now slabs self.old →
+            Answers (old_rules mill.now slabs numbers.now) result }
+        ensures draft { OnOk result ((slabs : List Column) → IsDraft mill.now slabs self.old →
+            IsDraft mill.now (slabs ++ old_slab_of numbers.now ∷ []) self.new) }
         ensures orders { length self.new.placed ≡ length mill.now.orders }
         ensures other { result ≢ Err Why.Column }
     {
@@ -123,7 +128,8 @@ impl Draft {
     /// Tests the plan where it ends: each order lies on a slab, and the sums are these.
     pub fn test_plan(&self, mill: &Mill, sums: Sums) -> Result<(), Why>
         requires { length self.now.placed ≡ length mill.now.orders }
-        ensures rules { (slabs : List Column) → IsDraft mill.now slabs self.now → Answers (plan_rules mill.now sums slabs) result }
+        ensures rules { (slabs : List Column) → IsDraft mill.now slabs self.now →
+            Answers (plan_rules mill.now sums slabs) result }
         ensures other { result ≢ Err Why.Column }
     {
         if self.next < self.placed.len() {
@@ -139,7 +145,8 @@ impl Draft {
     fn are_placeable(&self, mill: &Mill, roster: &mut Roster, numbers: &Nums<'_>) -> bool
         requires count { 2 ≤ length numbers.now }
         requires orders { length self.now.placed ≡ length mill.now.orders }
-        ensures place { (slabs : List Column) → IsDraft mill.now slabs self.now → (IsTrue result ↔ ArePlaceable mill.now slabs (drop 1 numbers.now)) }
+        ensures place { (slabs : List Column) → IsDraft mill.now slabs self.now →
+            (IsTrue result ↔ ArePlaceable mill.now slabs (drop 1 numbers.now)) }
         ensures orders { OnTrue result (roster.new ≡ orders_on (drop 1 numbers.now)) }
         ensures next { OnTrue result (AreNext self.now.placed roster.new) }
     {
@@ -218,7 +225,8 @@ fn has_surplus(kinds: &[Kind], slab: u16) -> bool
 // The steel of these slabs that the mill's orders don't take.
 fn loss_of(mill: &Mill, kinds: &[Kind]) -> u32
     requires { length kinds.now ≤ 250 }
-    ensures { result ≡ sum_by (size_of_kind mill.now) kinds.now - sum_by (λ order. order.weight) mill.now.orders }
+    ensures { result ≡ sum_by (size_of_kind mill.now) kinds.now
+        - sum_by (λ order. order.weight) mill.now.orders }
 {
     total_size(mill, kinds).saturating_sub(total_weight(mill))
 }

@@ -40,7 +40,8 @@ pub fn named_slab(mill: &Mill, number: i64) -> Option<u16>
 /// Tests what orders weigh together on a slab, how many colours they have, and on a surplus slab whether one is barred.
 pub fn test_slab(mill: &Mill, kind: Kind, orders: &[u16]) -> Result<(), Why>
     requires { Rises 0 (length mill.now.orders) orders.now }
-    ensures rules { Answers (slab_rules mill.now (record { kind = kind; orders = orders.now })) result }
+    ensures rules { Answers
+        (slab_rules mill.now (record { kind = kind; orders = orders.now })) result }
     ensures other { result ≢ Err Why.Column }
 {
     if load_of(mill, orders) > u32::from(mill.size_of(kind)) {
@@ -86,7 +87,8 @@ fn has_few_colours(mill: &Mill, orders: &[u16]) -> bool
 
 // Tests that no order is barred from a surplus slab.
 fn test_bars(mill: &Mill, slab: u16, orders: &[u16]) -> Result<(), Why>
-    ensures rules { Answers (bar_rules mill.now (record { kind = Kind.Old slab; orders = orders.now }) (Kind.Old slab)) result }
+    ensures rules { Answers (bar_rules mill.now
+        (record { kind = Kind.Old slab; orders = orders.now }) (Kind.Old slab)) result }
     ensures other { result ≢ Err Why.Column }
 {
     for order in orders {

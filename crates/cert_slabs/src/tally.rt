@@ -93,8 +93,10 @@ impl Tally {
         requires orders { length self.old.covered ≡ length mill.now.orders }
         requires slabs { length self.old.used ≡ length mill.now.yard }
         ensures cover { (shares : List Share) → IsTally mill.now self.old.d shares self.old →
-            (IsTrue result ↔ StayWithin mill.now (unsigned_abs self.old.d) (shares ++ share_of times kind orders.now ∷ []) kind) }
-        ensures tally { OnTrue result ((shares : List Share) → IsTally mill.now self.old.d shares self.old →
+            (IsTrue result ↔ StayWithin mill.now (unsigned_abs self.old.d)
+            (shares ++ share_of times kind orders.now ∷ []) kind) }
+        ensures tally { OnTrue result ((shares : List Share) →
+            IsTally mill.now self.old.d shares self.old →
             IsTally mill.now self.old.d (shares ++ share_of times kind orders.now ∷ []) self.new) }
         ensures orders { length self.new.covered ≡ length self.old.covered }
         ensures slabs { length self.new.used ≡ length self.old.used }
@@ -115,7 +117,8 @@ impl Tally {
     /// Tests the spread where it ends: it covers each order, and stays within the limits.
     pub fn test_cover(&self, limits: Limits) -> Result<(), Why>
         requires { AreFair limits }
-        ensures rules { (m : Mill) (shares : List Share) → length self.now.covered ≡ length m.orders → IsTally m self.now.d shares self.now →
+        ensures rules { (m : Mill) (shares : List Share) →
+            length self.now.covered ≡ length m.orders → IsTally m self.now.d shares self.now →
             Answers (cover_rules m limits (unsigned_abs self.now.d) shares) result }
         ensures other { result ≢ Err Why.Column }
     {
@@ -148,7 +151,8 @@ pub fn read_new_share(
 ) -> Result<(u64, Kind), Why>
     requires { 3 ≤ length numbers.now }
     ensures rules { Answers (new_share_front mill.now numbers.now) result }
-    ensures read { IfOk result (λ r. IsRead mill.now (share_of_new numbers.now) r.0 r.1 roster.new) }
+    ensures read { IfOk result (λ r.
+        IsRead mill.now (share_of_new numbers.now) r.0 r.1 roster.new) }
     ensures other { result ≢ Err Why.Column }
 {
     let times = numbers.get(0);
@@ -175,7 +179,8 @@ pub fn read_old_share(
 ) -> Result<(u64, Kind), Why>
     requires { 3 ≤ length numbers.now }
     ensures rules { Answers (old_share_front mill.now numbers.now) result }
-    ensures read { IfOk result (λ r. IsRead mill.now (share_of_old numbers.now) r.0 r.1 roster.new) }
+    ensures read { IfOk result (λ r.
+        IsRead mill.now (share_of_old numbers.now) r.0 r.1 roster.new) }
     ensures other { result ≢ Err Why.Column }
 {
     let times = numbers.get(0);
@@ -208,7 +213,8 @@ fn cover(covered: &mut [u64], orders: &[u16], times: u64, most: u64) -> bool
     requires times { times ≤ 2 ^ 62 }
     requires most { most ≤ 2 ^ 62 }
     requires within { AreWithin most covered.old }
-    ensures fits { IsTrue result ↔ ((o : ℕ) → has orders.now o ≡ true → slice_index covered.old o + times ≤ most) }
+    ensures fits { IsTrue result ↔
+        ((o : ℕ) → has orders.now o ≡ true → slice_index covered.old o + times ≤ most) }
     ensures added { OnTrue result (IsAdded covered.old covered.new orders.now times) }
     ensures sums { OnTrue result (sum covered.new ≡ sum covered.old + times * length orders.now) }
     ensures within { AreWithin most covered.new }
@@ -231,8 +237,10 @@ fn use_kind(used: &mut [u64], kind: Kind, times: u64, most: u64) -> bool
     requires times { times ≤ 2 ^ 62 }
     requires most { most ≤ 2 ^ 62 }
     requires within { AreWithin most used.old }
-    ensures fits { IsTrue result ↔ ((s : ℕ) → is_old s kind ≡ true → slice_index used.old s + times ≤ most) }
-    ensures added { OnTrue result ((s : ℕ) → s < length used.old → slice_index used.new s ≡ slice_index used.old s + cond (is_old s kind) times 0) }
+    ensures fits { IsTrue result ↔
+        ((s : ℕ) → is_old s kind ≡ true → slice_index used.old s + times ≤ most) }
+    ensures added { OnTrue result ((s : ℕ) → s < length used.old →
+        slice_index used.new s ≡ slice_index used.old s + cond (is_old s kind) times 0) }
     ensures within { AreWithin most used.new }
 {
     match kind {
@@ -248,7 +256,8 @@ fn use_slab(used: &mut [u64], slab: u16, times: u64, most: u64) -> bool
     requires most { most ≤ 2 ^ 62 }
     requires within { AreWithin most used.old }
     ensures fits { IsTrue result ↔ (slice_index used.old slab + times ≤ most) }
-    ensures added { OnTrue result ((s : ℕ) → s < length used.old → slice_index used.new s ≡ slice_index used.old s + cond (eqb slab s) times 0) }
+    ensures added { OnTrue result ((s : ℕ) → s < length used.old →
+        slice_index used.new s ≡ slice_index used.old s + cond (eqb slab s) times 0) }
     ensures within { AreWithin most used.new }
 {
     let place = usize::from(slab);

@@ -16,4 +16,4 @@ pub use laws::{
     trimmed_trees_are_tight,
 };
 pub use trimmed::Trimmed;
-pub use whole::trim;
+pub use whole::{trim, trim_read};

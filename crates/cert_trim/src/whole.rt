@@ -1,14 +1,15 @@
 //! A whole certificate.
-ghost use Rattle.std.specs.Prelude.{◌≡◌, [], IfOk, None};
+ghost use Rattle.std.specs.Prelude.{◌≡◌, ℕ, List, [], IfOk, None};
 ghost use Rattle.mill_model.specs.Fronts.{IsGoodWhole, below, count_before, last_sums};
 ghost use Rattle.mill_model.specs.Marks.{IsMarkedRefutation};
+ghost use Rattle.cert_keep.specs.Reads.{IsCertRead};
 ghost use Rattle.cert_trim.specs.Certificates.{AreTrimmedFrom, AreTrimmedSteps};
 ghost use Rattle.cert_trim.specs.Reads.{IsTrimRead};
 
 use crate::Trimmed;
 use crate::points::{count_below, trim_head};
 use crate::walk::Walk;
-use cert_check::{CertRead, read_cert};
+use cert_keep::{CertRead, read_cert};
 use mill_model::{Front, Head, Limits, Mill, Steps, Sums};
 use std::alloc::{AllocError, Global};
 
@@ -22,7 +23,21 @@ use std::alloc::{AllocError, Global};
 pub fn trim(alloc: Global, mill: &Mill, bytes: &[u8]) -> Result<Trimmed, AllocError>
     ensures { IfOk result (IsTrimRead mill.now bytes.now) }
 {
-    match read_cert(alloc, mill, bytes)? {
+    let read = read_cert(alloc, mill, bytes)?;
+    trim_read(alloc, mill, read)
+}
+
+/// Trims the finished trees of a certificate that was read: the answer is that of `trim` for the bytes that it was read from.
+///
+/// # Errors
+///
+/// Want of memory.
+pub fn trim_read(alloc: Global, mill: &Mill, read: CertRead) -> Result<Trimmed, AllocError>
+    requires { (bytes : List ℕ) × IsCertRead mill.now bytes read }
+    ensures { IfOk result (λ trimmed. (bytes : List ℕ) →
+        IsCertRead mill.now bytes read → IsTrimRead mill.now bytes trimmed) }
+{
+    match read {
         CertRead::Whole(version, front) => {
             let shorter = trim_front(alloc, mill, front)?;
             Ok(Trimmed::Whole(version, shorter))

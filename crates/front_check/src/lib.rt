@@ -14,10 +14,8 @@ mod texts;
 mod verdict;
 mod words;
 
-pub use cert_check::{
-    CertRead, Checker, CutRead, CutReader, Failure, LineWhy, OrderList, Points, Verdict, check,
-    read_cert, read_cut,
-};
+pub use cert_check::{Checker, Failure, LineWhy, OrderList, Points, Verdict, check};
+pub use cert_keep::{CertRead, CertReader, CutRead, CutReader, TooLong, read_cert, read_cut};
 pub use laws::one_answer;
 pub use program::check_run;
 pub use words::{CheckJob, CheckUsage, read_check_words};

@@ -1,6 +1,0 @@
-use Rattle.cert_check.specs.Parts.{gathered}
-use Rattle.cert_check.proofs.Gathering.{as_reader}
-use Rattle.cert_check.proofs.gatherer.Gatherer.failed.Goals as goal
-
-pub returns-clause-exact : goal.returns-clause-exact
-returns-clause-exact c = λ bytes h. c.failed.ensures.exact bytes (as_reader c.args.self.now.reader.reading.wanted (gathered c.args.self.now) bytes h)

@@ -1,6 +1,0 @@
-use Rattle.std.proofs.Common.{◌≡◌, take}
-use Rattle.cert_check.specs.Building.{orders16}
-use Rattle.cert_check.proofs.numbers.list_orders.Given as goal
-
-abbrev pub invariant-loop-number : goal.invariant-loop-number
-invariant-loop-number l = l.orders.items ≡ orders16 (take l.number-index l.numbers)
