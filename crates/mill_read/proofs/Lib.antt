@@ -4,3 +4,7 @@ pub mod Readers
 pub mod OrderGrammar
 pub mod YardGrammar
 pub mod PlanGrammar
+pub mod TextOfWords
+pub mod Refusals
+pub mod FirstOffences
+pub mod OrderOffences

@@ -3,6 +3,7 @@
 ghost use Rattle.mill_read.specs.OrderFile.{OrderFilesSpellMills};
 ghost use Rattle.mill_read.specs.YardFile.{YardFilesSpellYards};
 ghost use Rattle.mill_read.specs.PlanFile.{PlanFilesSpellPlans};
+ghost use Rattle.mill_read.specs.Offences.{OrderFilesAreRefusedForFirstOffences};
 
 /// An order file gives a mill exactly where its words spell the mill's numbers, within their limits.
 pub fn order_files_spell_mills()
@@ -17,4 +18,10 @@ pub fn yard_files_spell_yards()
 /// A plan file gives a plan exactly where its words spell it, with a place for each order, and its numbers are in range.
 pub fn plan_files_spell_plans()
     ensures { PlanFilesSpellPlans }
+{}
+
+/// An order file is refused at a word exactly where the words before that one begin some order file and with it they don't
+/// (or the text ends there, and is no order file), and for the rule that the word breaks.
+pub fn order_files_are_refused_for_first_offences()
+    ensures { OrderFilesAreRefusedForFirstOffences }
 {}
