@@ -8,3 +8,4 @@ pub mod TextOfWords
 pub mod Refusals
 pub mod FirstOffences
 pub mod OrderOffences
+pub mod YardOffences

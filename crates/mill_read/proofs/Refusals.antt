@@ -23,7 +23,7 @@ err e = Err e
 abbrev pub fault_of : ℕ → Why → TextFault
 fault_of number why = record { word = number; why = why }
 
-pub same_err : {A : Type 0} (x y : TextFault) → err {A} x ≡ err y → x ≡ y
+pub same_err : {A : Type 0} (x y : TextFault) → err {A = A} x ≡ err y → x ≡ y
 same_err x y h = cc
 
 pub ok_not_err : {A : Type 0} (x : A) (e : TextFault) → (let r : Result A TextFault = Ok x in r ≡ Err e) → ⊥
@@ -146,6 +146,10 @@ tested outside low high word = tested_so outside low high word (is_number word) 
 abbrev pub then_number : {B : Type 0} → Why → ℕ → ℕ → (ℕ → WordsLeft → Result B TextFault) → WordsLeft → Result B TextFault
 then_number outside low high k left = number_at outside low high left >>= λ n. k n.0 n.1
 
+-- a value, and these words after it
+abbrev taken : {A : Type 0} → Result A TextFault → WordsLeft → Read A
+taken r left = r >>= λ x. Ok (x, left)
+
 number_none : {B : Type 0} (outside : Why) (low high : ℕ) (k : ℕ → WordsLeft → Result B TextFault) (number : ℕ) → then_number outside low high k (at number []) ≡ fault number Missing
 unfolding number_at
 number_none outside low high k number = refl
@@ -153,12 +157,12 @@ number_none outside low high k number = refl
 pub number_good : {B : Type 0} (outside : Why) (low high : ℕ) (k : ℕ → WordsLeft → Result B TextFault) (number n : ℕ) (word : List ℕ) (rest : List (List ℕ))
     → number_in outside low high number word ≡ Ok n → then_number outside low high k (at number (word ∷ rest)) ≡ k n (at (number + 1) rest)
 unfolding number_at
-number_good outside low high k number n word rest h = ap (λ (r : Result ℕ TextFault). (r >>= λ x. Ok (x, at (number + 1) rest)) >>= λ x. k x.0 x.1) h
+number_good outside low high k number n word rest h = ap (λ (r : Result ℕ TextFault). taken r (at (number + 1) rest) >>= λ x. k x.0 x.1) h
 
 number_bad : {B : Type 0} (outside : Why) (low high : ℕ) (k : ℕ → WordsLeft → Result B TextFault) (number : ℕ) (why : Why) (word : List ℕ) (rest : List (List ℕ))
     → number_in outside low high number word ≡ fault number why → then_number outside low high k (at number (word ∷ rest)) ≡ fault number why
 unfolding number_at
-number_bad outside low high k number why word rest h = ap (λ (r : Result ℕ TextFault). (r >>= λ x. Ok (x, at (number + 1) rest)) >>= λ x. k x.0 x.1) h
+number_bad outside low high k number why word rest h = ap (λ (r : Result ℕ TextFault). taken r (at (number + 1) rest) >>= λ x. k x.0 x.1) h
 
 -- a word that can't stand
 bad_word : {B : Type 0} (s : Setting B) (front : List (List ℕ)) (word : List ℕ) (rest : List (List ℕ)) (why : Why) (e : TextFault) (f : WordsLeft → Result B TextFault)
@@ -258,13 +262,17 @@ fine_number s outside low high front k goes o fits least fine =
 
 -- ---- a list
 
+-- this item, before those that are read
+abbrev with_first : {A : Type 0} → A → Read (List A) → Read (List A)
+with_first first r = r >>= λ others. Ok (first ∷ others.0, others.1)
+
 bind_list : {A B : Type 0} (item : WordsLeft → Read A) (count : ℕ) (k : List A → WordsLeft → Result B TextFault) (first : A) (r : Read (List A))
-    → ((r >>= λ others. Ok (first ∷ others.0, others.1)) >>= λ xs. k xs.0 xs.1) ≡ (r >>= λ xs. k (first ∷ xs.0) xs.1)
+    → (with_first first r >>= λ xs. k xs.0 xs.1) ≡ (r >>= λ xs. k (first ∷ xs.0) xs.1)
 bind_list item count k first (Ok others) = refl
 bind_list item count k first (Err e) = refl
 
 bind_item : {A B : Type 0} (item : WordsLeft → Read A) (count : ℕ) (k : List A → WordsLeft → Result B TextFault) (r : Read A)
-    → (r >>= λ first. list_at item count first.1 >>= λ xs. k (first.0 ∷ xs.0) xs.1) ≡ ((r >>= λ first. list_at item count first.1 >>= λ others. Ok (first.0 ∷ others.0, others.1)) >>= λ xs. k xs.0 xs.1)
+    → (r >>= λ first. list_at item count first.1 >>= λ xs. k (first.0 ∷ xs.0) xs.1) ≡ ((r >>= λ first. with_first first.0 (list_at item count first.1)) >>= λ xs. k xs.0 xs.1)
 bind_item item count k (Ok first) = sym (bind_list item count k first.0 (list_at item count first.1))
 bind_item item count k (Err e) = refl
 
@@ -286,23 +294,27 @@ list_done item k left = refl
 
 -- an item of two numbers
 
+-- this number, and the one that is read
+abbrev with_second : {A : Type 0} → (ℕ → ℕ → A) → ℕ → Read ℕ → Read A
+with_second make first r = r >>= λ b. Ok (make first b.0, b.1)
+
 second_number : {A B : Type 0} (make : ℕ → ℕ → A) (k : A → WordsLeft → Result B TextFault) (first : ℕ) (r : Read ℕ)
-    → ((r >>= λ b. Ok (make first b.0, b.1)) >>= λ x. k x.0 x.1) ≡ (r >>= λ b. k (make first b.0) b.1)
+    → (with_second make first r >>= λ x. k x.0 x.1) ≡ (r >>= λ b. k (make first b.0) b.1)
 second_number make k first (Ok b) = refl
 second_number make k first (Err e) = refl
 
 first_number : {A B : Type 0} (outside : Why) (low high : ℕ) (make : ℕ → ℕ → A) (k : A → WordsLeft → Result B TextFault) (r : Read ℕ)
-    → ((r >>= λ a. number_at outside low high a.1 >>= λ b. Ok (make a.0 b.0, b.1)) >>= λ x. k x.0 x.1) ≡ (r >>= λ a. number_at outside low high a.1 >>= λ b. k (make a.0 b.0) b.1)
+    → ((r >>= λ a. with_second make a.0 (number_at outside low high a.1)) >>= λ x. k x.0 x.1) ≡ (r >>= λ a. number_at outside low high a.1 >>= λ b. k (make a.0 b.0) b.1)
 first_number outside low high make k (Ok a) = second_number make k a.0 (number_at outside low high a.1)
 first_number outside low high make k (Err e) = refl
 
 pub two_numbers : {A B : Type 0} (outside_a : Why) (low_a high_a : ℕ) (outside_b : Why) (low_b high_b : ℕ) (make : ℕ → ℕ → A) (k : A → WordsLeft → Result B TextFault) (left : WordsLeft)
-    → then_item (λ l. number_at outside_a low_a high_a l >>= λ a. number_at outside_b low_b high_b a.1 >>= λ b. Ok (make a.0 b.0, b.1)) k left
+    → then_item (λ l. number_at outside_a low_a high_a l >>= λ a. with_second make a.0 (number_at outside_b low_b high_b a.1)) k left
     ≡ then_number outside_a low_a high_a (λ a. then_number outside_b low_b high_b (λ b. k (make a b))) left
 two_numbers outside_a low_a high_a outside_b low_b high_b make k left = first_number outside_b low_b high_b make k (number_at outside_a low_a high_a left)
 
 -- one item, after these that were read before
-abbrev pub ItemStep : {A B : Type 0} → Setting B → (WordsLeft → Read A) → (List A → List (List ℕ) → Type 0) → ℕ → Type 1
+abbrev pub ItemStep : {A B : Type 0} → Setting B → (WordsLeft → Read A) → (List A → List (List ℕ) → Type 0) → ℕ → Type 0
 ItemStep {A} {B} s item Shape total = (earlier : List A) (front : List (List ℕ)) (k : A → WordsLeft → Result B TextFault) → length earlier < total → Shape earlier front
     → ((x : A) (now : List (List ℕ)) → Shape (earlier ++ x ∷ []) now → Fine s now (k x)) → Fine s front (then_item item k)
 

@@ -3,7 +3,7 @@
 ghost use Rattle.mill_read.specs.OrderFile.{OrderFilesSpellMills};
 ghost use Rattle.mill_read.specs.YardFile.{YardFilesSpellYards};
 ghost use Rattle.mill_read.specs.PlanFile.{PlanFilesSpellPlans};
-ghost use Rattle.mill_read.specs.Offences.{OrderFilesAreRefusedForFirstOffences};
+ghost use Rattle.mill_read.specs.Offences.{OrderFilesAreRefusedForFirstOffences, YardFilesAreRefusedForFirstOffences};
 
 /// An order file gives a mill exactly where its words spell the mill's numbers, within their limits.
 pub fn order_files_spell_mills()
@@ -24,4 +24,11 @@ pub fn plan_files_spell_plans()
 /// (or the text ends there, and is no order file), and for the rule that the word breaks.
 pub fn order_files_are_refused_for_first_offences()
     ensures { OrderFilesAreRefusedForFirstOffences }
+{}
+
+/// A yard file is refused at a word exactly where the words before that one can stand and with it they can't (or the text ends
+/// there, and is no yard file), and for the rule that the word breaks. Words can stand that begin some yard file for so many
+/// orders; and those that announce bars where there is no order or no surplus slab, up to the place that no number can take.
+pub fn yard_files_are_refused_for_first_offences()
+    ensures { YardFilesAreRefusedForFirstOffences }
 {}

@@ -19,7 +19,7 @@ mod yards;
 pub use fault::{TextError, TextFault, Why};
 pub use laws::{
     order_files_are_refused_for_first_offences, order_files_spell_mills, plan_files_spell_plans,
-    yard_files_spell_yards,
+    yard_files_are_refused_for_first_offences, yard_files_spell_yards,
 };
 pub use orders::read_orders;
 pub use plans::read_plan;
