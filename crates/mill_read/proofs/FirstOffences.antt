@@ -8,6 +8,7 @@ use Rattle.mill_read.specs.declared.fault.TextFault.{TextFault}
 use Rattle.mill_read.specs.declared.fault.Why.{Why}
 use Rattle.mill_read.specs.declared.fault.Why.TheVariants.{Missing, NotNumber, Range, Colour, Kind, Extra}
 use Rattle.mill_read.proofs.TextOfWords.{AreWords, words_joined, words_before, text_of, words_of_text, are_words}
+use Rattle.mill_read.proofs.TwoParts.{Compared, Same, Longer, Shorter, compared}
 use Rattle.mill_read.proofs.Refusals.{at, fault_of, ok_not_err, Setting, GoesOn, Ends, Breaks, Stops, Refused}
 
 -- what a setting and a grammar have to do with one another
@@ -142,29 +143,6 @@ same_rule g front word Kind y a b = absurd a
 same_why : (g : Grammar) (file : List ℕ) (front rest : List (List ℕ)) (x y : Why) → Offends g file front rest x → Offends g file front rest y → x ≡ y
 same_why g file front [] x y a b = a.1 ∙ sym b.1
 same_why g file front (word ∷ rest) x y a b = same_rule g front word x y a.1 b.1
-
--- one list in two parts, in two ways
-data Compared (a b c d : List (List ℕ)) : Type 0 where
-  Same : a ≡ c → b ≡ d → Compared a b c d
-  Longer : (word : List ℕ) (more : List (List ℕ)) → c ≡ a ++ word ∷ more → b ≡ word ∷ (more ++ d) → Compared a b c d
-  Shorter : (word : List ℕ) (more : List (List ℕ)) → a ≡ c ++ word ∷ more → d ≡ word ∷ (more ++ b) → Compared a b c d
-
-one_word_more : (w v : List ℕ) (a b c d : List (List ℕ)) → w ≡ v → Compared a b c d → Compared (w ∷ a) b (v ∷ c) d
-one_word_more w v a b c d e (Same p q) = Same (ap (λ (x : List ℕ). x ∷ a) e ∙ ap (λ (l : List (List ℕ)). v ∷ l) p) q
-one_word_more w v a b c d e (Longer word more p q) = Longer word more (ap (λ (x : List ℕ). x ∷ c) (sym e) ∙ ap (λ (l : List (List ℕ)). w ∷ l) p) q
-one_word_more w v a b c d e (Shorter word more p q) = Shorter word more (ap (λ (x : List ℕ). x ∷ a) e ∙ ap (λ (l : List (List ℕ)). v ∷ l) p) q
-
-first_is : (w v : List ℕ) (a b : List (List ℕ)) → w ∷ a ≡ v ∷ b → w ≡ v
-first_is w v a b h = cc h
-
-others_are : (w v : List ℕ) (a b : List (List ℕ)) → w ∷ a ≡ v ∷ b → a ≡ b
-others_are w v a b h = cc h
-
-compared : (a b c d : List (List ℕ)) → a ++ b ≡ c ++ d → Compared a b c d
-compared [] b [] d h = Same refl h
-compared [] b (v ∷ c) d h = Longer v c refl h
-compared (w ∷ a) b [] d h = Shorter w a refl (sym h)
-compared (w ∷ a) b (v ∷ c) d h = one_word_more w v a b c d (first_is w v (a ++ b) (c ++ d) h) (compared a b c d (others_are w v (a ++ b) (c ++ d) h))
 
 -- where a word can't stand, no longer words can
 none_longer : {B : Type 0} (g : Grammar) (s : Setting B) → Agrees g s → (file : List ℕ) (front rest later : List (List ℕ)) (word : List ℕ) (more after : List (List ℕ)) (why : Why)

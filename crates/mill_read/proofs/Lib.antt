@@ -6,6 +6,7 @@ pub mod YardGrammar
 pub mod PlanGrammar
 pub mod TextOfWords
 pub mod Refusals
+pub mod TwoParts
 pub mod FirstOffences
 pub mod OrderOffences
 pub mod YardOffences

@@ -288,7 +288,7 @@ pub list_more : {A B : Type 0} (item : WordsLeft → Read A) (count : ℕ) (k : 
 unfolding list_at
 list_more item count k left = sym (bind_item item count k (item left))
 
-list_done : {A B : Type 0} (item : WordsLeft → Read A) (k : List A → WordsLeft → Result B TextFault) (left : WordsLeft) → then_list item 0 k left ≡ k [] left
+pub list_done : {A B : Type 0} (item : WordsLeft → Read A) (k : List A → WordsLeft → Result B TextFault) (left : WordsLeft) → then_list item 0 k left ≡ k [] left
 unfolding list_at
 list_done item k left = refl
 

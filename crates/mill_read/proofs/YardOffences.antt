@@ -14,7 +14,7 @@ use Rattle.mill_read.specs.Offences.{Grammar, IsOver, AnnounceNoBar, yard_gramma
 use Rattle.mill_read.specs.declared.fault.TextFault.{TextFault}
 use Rattle.mill_read.specs.declared.fault.Why.{Why}
 use Rattle.mill_read.specs.declared.fault.Why.TheVariants.{Missing, Range}
-use Rattle.mill_read.proofs.Readers.{number_reader, list_reader, one_numeral, flat_map-one_numeral, zip_join, zip_parts}
+use Rattle.mill_read.proofs.Readers.{number_reader, list_reader, one_numeral, flat_map-one_numeral, zip_join, zip_parts, gives_word}
 use Rattle.mill_read.proofs.YardGrammar.{yard_file_is}
 use Rattle.mill_read.proofs.TextOfWords.{AreWords}
 use Rattle.mill_read.proofs.Refusals.{at, same_err, fault_of, ok_not_err, Setting, GoesOn, Fine, Told, Refused, ItemStep, then_number, then_item, then_list, list_more, list_done, two_numbers, number_good, one, nothing, told_same, told_number, fine_same, fine_number, fine_list, fine_end}
@@ -172,7 +172,7 @@ same_after orders slabs sizes number word rest = bind_bars orders slabs sizes (n
 no_bars_read : (orders slabs : ℕ) (sizes : List ℕ) (number : ℕ) → after_sizes orders slabs sizes (at number (nothing.word ∷ [])) ≡ Ok (yard_of sizes [])
 no_bars_read orders slabs sizes number =
     same_after orders slabs sizes number nothing.word []
-    ∙ number_good Range 0 most_bars (after_bar_count orders slabs sizes) number 0 nothing.word [] refl
+    ∙ number_good Range 0 most_bars (after_bar_count orders slabs sizes) number 0 nothing.word [] (gives_word Range 0 most_bars number nothing.word 0 (omega arith, omega arith) (nothing.number, nothing.value))
     ∙ list_done (bar_at orders slabs) (after_bars sizes) (at (number + 1) [])
 
 told_after : (orders : ℕ) (sizes : List ℕ) (front : List (List ℕ)) → length sizes ≤ most_slabs → Begun (length sizes) sizes front → Told (reading orders) front (after_sizes orders (length sizes) sizes)
