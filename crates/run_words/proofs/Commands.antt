@@ -91,7 +91,7 @@ abbrev pub then_word : {A J : Type 0} → (List ℕ → Option A) → ℕ → (A
 then_word reading n k words = word_at reading n words >>= λ x. k x.0 x.1
 
 -- a value, and these words after it
-abbrev beside : {A : Type 0} → List (List ℕ) → Parsed A → Parsed (A × List (List ℕ))
+abbrev pub beside : {A : Type 0} → List (List ℕ) → Parsed A → Parsed (A × List (List ℕ))
 beside rest p = p >>= λ v. Ok (v, rest)
 
 pub word_good : {A J : Type 0} (reading : List ℕ → Option A) (n : ℕ) (k : A → List (List ℕ) → Parsed J) (word : List ℕ) (a : A) (rest : List (List ℕ)) → reading word ≡ Some a → then_word reading n k (word ∷ rest) ≡ k a rest
@@ -159,8 +159,12 @@ none_longer : {J : Type 0} (IsCommand : List (List ℕ) → J → Type 0) (front
     → CannotGoOn IsCommand front rest → rest ≡ word ∷ after → later ≡ front ++ word ∷ more → BeginsCommand IsCommand later → ⊥
 none_longer IsCommand front rest later word more after bad is longer b =
     let there : CannotGoOn IsCommand front (word ∷ after) = subst (λ (r : List (List ℕ)). CannotGoOn IsCommand front r) is bad in
-    there (more ++ b.0, b.1, subst (λ (ws : List (List ℕ)). IsCommand ws b.1)
-    (ap (λ (ws : List (List ℕ)). ws ++ b.0) longer ∙ append_assoc front (word ∷ more) b.0 ∙ sym (append_assoc front (word ∷ []) (more ++ b.0))) b.2)
+    there (
+      more ++ b.0,
+      b.1,
+      subst (λ (ws : List (List ℕ)). IsCommand ws b.1)
+          (ap (λ (ws : List (List ℕ)). ws ++ b.0) longer ∙ append_assoc front (word ∷ more) b.0 ∙ sym (append_assoc front (word ∷ []) (more ++ b.0))) b.2,
+    )
 
 one_wrong : {J : Type 0} (IsCommand : List (List ℕ) → J → Type 0) (words : List (List ℕ)) (x y : ℕ) → (a : IsFirstWrong IsCommand words x) → (b : IsFirstWrong IsCommand words y) → Compared a.front a.rest b.front b.rest → x ≡ y
 one_wrong IsCommand words x y a b (Same p q) = a.number_is ∙ ap (λ (f : List (List ℕ)). length f + 1) p ∙ sym b.number_is

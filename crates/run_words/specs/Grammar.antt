@@ -61,6 +61,26 @@ AreOptions rules before (name ∷ []) after = ⊥
 AreOptions {O} rules before (name ∷ value ∷ words) after =
     (more : O) × IsSomeOption rules before name value more × AreOptions rules more words after
 
+-- ---- words in their places
+
+-- a file word, and after it words that are so
+abbrev pub FileThen : {J : Type 0} → (List ℕ → List (List ℕ) → J → Type 0) → List (List ℕ) → J → Type 0
+FileThen Then words job =
+    (file : List ℕ) × (rest : List (List ℕ)) × (words ≡ file ∷ rest) × (is_file_word file ≡ true) × Then file rest job
+
+-- the decimal text of a number within these bounds, and after it words that are so
+abbrev pub NumberThen : {J : Type 0} → ℕ → ℕ → (ℕ → List (List ℕ) → J → Type 0) → List (List ℕ) → J → Type 0
+NumberThen least most Then words job =
+    (n : ℕ) × (rest : List (List ℕ)) × (words ≡ decimal n ∷ rest) × (least ≤ n) × (n ≤ most) × Then n rest job
+
+-- options, of which this job is made
+abbrev pub OptionsFor : {O J : Type 0} → List (OptionRule O) → O → (O → J) → List (List ℕ) → J → Type 0
+OptionsFor {O} rules none make words job = (options : O) × AreOptions rules none words options × (job ≡ make options)
+
+-- no word more
+abbrev pub EndsWith : {J : Type 0} → J → List (List ℕ) → J → Type 0
+EndsWith made words job = (words ≡ []) × (job ≡ made)
+
 -- ---- the first word that can't stand
 
 -- some command begins with these words
@@ -88,3 +108,25 @@ ReadsCommands {J} IsCommand reading = (words : List (List ℕ)) (job : J) → (r
 -- and refuses words by the number of the first that can't stand
 abbrev pub TellsFirstWrong : {J : Type 0} → (List (List ℕ) → J → Type 0) → (List (List ℕ) → Parsed J) → Type 0
 TellsFirstWrong IsCommand reading = (words : List (List ℕ)) (number : ℕ) → (reading words ≡ Err number) ↔ IsFirstWrong IsCommand words number
+
+-- ---- commands by their names
+
+-- one command among others: its name, how the words after it are read, and what they may be for a job
+pub record CommandRule (J : Type 0) : Type 1 where
+  pub name : List ℕ
+  pub reading : List (List ℕ) → Parsed J
+  pub Asks : List (List ℕ) → J → Type 0
+
+-- the job of the command of this name
+abbrev pub job_by : {J : Type 0} → List (CommandRule J) → List ℕ → List (List ℕ) → Parsed J
+job_by [] command words = Err 1
+job_by (rule ∷ rules) command words = if bytes_eq command rule.name then rule.reading words else job_by rules command words
+
+abbrev pub command_by : {J : Type 0} → List (CommandRule J) → List (List ℕ) → Parsed J
+command_by rules [] = Err 1
+command_by rules (command ∷ words) = job_by rules command words
+
+-- the words are the name of one of these commands, and after it words that ask for this job
+abbrev pub IsSomeCommand : {J : Type 0} → List (CommandRule J) → List (List ℕ) → J → Type 0
+IsSomeCommand [] words job = ⊥
+IsSomeCommand (rule ∷ rules) words job = ((rest : List (List ℕ)) × (words ≡ rule.name ∷ rest) × rule.Asks rest job) ⊎ IsSomeCommand rules words job
