@@ -138,10 +138,10 @@ begins IsCommand read reads front done = (done.0, done.1, (reads (front ++ done.
 
 cannot_go_on : {J : Type 0} (IsCommand : List (List ℕ) → J → Type 0) (read : List (List ℕ) → Parsed J) → ReadsCommands IsCommand read → (words front rest : List (List ℕ)) (number : ℕ)
     → words ≡ front ++ rest → read words ≡ Err number → Stops read front rest number → CannotGoOn IsCommand front rest
-cannot_go_on IsCommand read reads words front [] number whole h stops job command =
-    job_not_number job number (sym ((reads front job).1 command) ∙ ap read (sym (whole ∙ append-nil front)) ∙ h)
-cannot_go_on IsCommand read reads words front (word ∷ rest) number whole h stops b =
-    job_not_number b.1 number (sym ((reads ((front ++ word ∷ []) ++ b.0) b.1).1 b.2) ∙ ap read (append_assoc front (word ∷ []) b.0) ∙ stops b.0)
+cannot_go_on IsCommand read reads words front [] number whole h stops =
+    λ job command. job_not_number job number (sym ((reads front job).1 command) ∙ ap read (sym (whole ∙ append-nil front)) ∙ h)
+cannot_go_on IsCommand read reads words front (word ∷ rest) number whole h stops =
+    λ b. job_not_number b.1 number (sym ((reads ((front ++ word ∷ []) ++ b.0) b.1).1 b.2) ∙ ap read (append_assoc front (word ∷ []) b.0) ∙ stops b.0)
 
 first_wrong : {J : Type 0} (IsCommand : List (List ℕ) → J → Type 0) (read : List (List ℕ) → Parsed J) → ReadsCommands IsCommand read → (words : List (List ℕ)) (number : ℕ) → read words ≡ Err number → Refused read words number
     → IsFirstWrong IsCommand words number

@@ -81,6 +81,28 @@ OptionsFor {O} rules none make words job = (options : O) × AreOptions rules non
 abbrev pub EndsWith : {J : Type 0} → J → List (List ℕ) → J → Type 0
 EndsWith made words job = (words ≡ []) × (job ≡ made)
 
+-- ---- commands by their names
+
+-- one command among others: its name, how the words after it are read, and what they may be for a job
+pub record CommandRule (J : Type 0) : Type 1 where
+  pub name : List ℕ
+  pub reading : List (List ℕ) → Parsed J
+  pub Asks : List (List ℕ) → J → Type 0
+
+-- the job of the command of this name
+abbrev pub job_by : {J : Type 0} → List (CommandRule J) → List ℕ → List (List ℕ) → Parsed J
+job_by [] command words = Err 1
+job_by (rule ∷ rules) command words = if bytes_eq command rule.name then rule.reading words else job_by rules command words
+
+abbrev pub command_by : {J : Type 0} → List (CommandRule J) → List (List ℕ) → Parsed J
+command_by rules [] = Err 1
+command_by rules (command ∷ words) = job_by rules command words
+
+-- the words are the name of one of these commands, and after it words that ask for this job
+abbrev pub IsSomeCommand : {J : Type 0} → List (CommandRule J) → List (List ℕ) → J → Type 0
+IsSomeCommand [] words job = ⊥
+IsSomeCommand (rule ∷ rules) words job = ((rest : List (List ℕ)) × (words ≡ rule.name ∷ rest) × rule.Asks rest job) ⊎ IsSomeCommand rules words job
+
 -- ---- the first word that can't stand
 
 -- some command begins with these words
@@ -108,25 +130,3 @@ ReadsCommands {J} IsCommand reading = (words : List (List ℕ)) (job : J) → (r
 -- and refuses words by the number of the first that can't stand
 abbrev pub TellsFirstWrong : {J : Type 0} → (List (List ℕ) → J → Type 0) → (List (List ℕ) → Parsed J) → Type 0
 TellsFirstWrong IsCommand reading = (words : List (List ℕ)) (number : ℕ) → (reading words ≡ Err number) ↔ IsFirstWrong IsCommand words number
-
--- ---- commands by their names
-
--- one command among others: its name, how the words after it are read, and what they may be for a job
-pub record CommandRule (J : Type 0) : Type 1 where
-  pub name : List ℕ
-  pub reading : List (List ℕ) → Parsed J
-  pub Asks : List (List ℕ) → J → Type 0
-
--- the job of the command of this name
-abbrev pub job_by : {J : Type 0} → List (CommandRule J) → List ℕ → List (List ℕ) → Parsed J
-job_by [] command words = Err 1
-job_by (rule ∷ rules) command words = if bytes_eq command rule.name then rule.reading words else job_by rules command words
-
-abbrev pub command_by : {J : Type 0} → List (CommandRule J) → List (List ℕ) → Parsed J
-command_by rules [] = Err 1
-command_by rules (command ∷ words) = job_by rules command words
-
--- the words are the name of one of these commands, and after it words that ask for this job
-abbrev pub IsSomeCommand : {J : Type 0} → List (CommandRule J) → List (List ℕ) → J → Type 0
-IsSomeCommand [] words job = ⊥
-IsSomeCommand (rule ∷ rules) words job = ((rest : List (List ℕ)) × (words ≡ rule.name ∷ rest) × rule.Asks rest job) ⊎ IsSomeCommand rules words job
