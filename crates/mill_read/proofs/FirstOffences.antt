@@ -1,8 +1,8 @@
 -- What a refusal shows is a first offence, and a file has one first offence.
-use Rattle.std.proofs.Common.{◌≡◌, ◌⊎◌, inl, inr, ℕ, ◌+◌, Bool, true, false, List, [], ◌∷◌, ◌++◌, length, Result, Ok, Err, refl, sym, ap, ◌∙◌, subst, append_assoc, append-nil, arith}
+use Rattle.std.proofs.Common.{◌≡◌, ℕ, ◌+◌, true, false, List, [], ◌∷◌, ◌++◌, length, Result, Ok, Err, refl, sym, ap, ◌∙◌, subst, append_assoc, append-nil}
 use Rattle.std.specs.Prelude.{◌↔◌}
 use Rattle.mill_read.specs.WordsLeft.{WordsLeft}
-use Rattle.mill_read.specs.Words.{words, is_number}
+use Rattle.mill_read.specs.Words.{words}
 use Rattle.mill_read.specs.Offences.{Grammar, BeginsFile, IsOver, WantsNumber, BreaksRule, Offends, IsFirstOffence}
 use Rattle.mill_read.specs.declared.fault.TextFault.{TextFault}
 use Rattle.mill_read.specs.declared.fault.Why.{Why}

@@ -1,18 +1,17 @@
 -- Order files: a refusal is one of the first offence.
-use Rattle.std.proofs.Common.{◌≡◌, ℕ, suc, ◌+◌, ◌*◌, ◌<◌, ◌≤◌, true, List, [], ◌∷◌, ◌++◌, length, Result, Ok, Err, refl, sym, ap, ◌∙◌, subst, arith}
+use Rattle.std.proofs.Common.{◌≡◌, ℕ, ◌+◌, ◌*◌, ◌≤◌, List, [], ◌∷◌, ◌++◌, length, Result, Ok, Err, refl, sym, ◌∙◌, subst, arith}
 use Rattle.std.proofs.lemmas.List.{length-append}
 use Rattle.std.specs.Str.Parse.{digits_value}
-use Rattle.mill_model.specs.Mill.{Mill, IsBetween, bare_mill, most_sizes, most_weight, most_colours, most_orders}
+use Rattle.mill_model.specs.Mill.{Mill, bare_mill, most_sizes, most_weight, most_colours, most_orders}
 use Rattle.mill_model.specs.declared.order.Order.{Order}
 use Rattle.mill_read.specs.WordsLeft.{WordsLeft}
-use Rattle.mill_read.specs.Words.{words, is_number}
-use Rattle.mill_read.specs.Reading.{Read, ◌>>=◌, number_at, list_at, no_more}
+use Rattle.mill_read.specs.Words.{words}
+use Rattle.mill_read.specs.Reading.{number_at, no_more}
 use Rattle.mill_read.specs.OrderFile.{order_at, mill_at}
-use Rattle.mill_read.specs.Offences.{EndWithWeight, order_grammar, IsSomeOrderFile, OrderFilesAreRefusedForFirstOffences, IsOver}
+use Rattle.mill_read.specs.Offences.{EndWithWeight, order_grammar, IsSomeOrderFile, OrderFilesAreRefusedForFirstOffences}
 use Rattle.mill_read.specs.declared.fault.TextFault.{TextFault}
 use Rattle.mill_read.specs.declared.fault.Why.TheVariants.{Range, Colour}
 use Rattle.mill_read.proofs.OrderGrammar.{order_file_is}
-use Rattle.mill_read.proofs.TextOfWords.{AreWords}
 use Rattle.mill_read.proofs.Refusals.{at, Setting, GoesOn, Fine, Refused, ItemStep, then_number, then_item, then_list, two_numbers, one, nothing, fine_same, fine_number, fine_list, fine_end}
 use Rattle.mill_read.proofs.WordsAfter.{HasAfter, one_after}
 use Rattle.mill_read.proofs.FirstOffences.{Agrees, begins_shorter, begins_never, goes_begin, begins_before, refuses_first_offences}

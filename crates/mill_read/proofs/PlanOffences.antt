@@ -1,19 +1,18 @@
 -- Plan files: a refusal is one of the first offence.
-use Rattle.std.proofs.Common.{◌≡◌, ℕ, suc, ◌+◌, ◌-◌, ◌*◌, ◌<◌, ◌≤◌, Bool, List, [], ◌∷◌, ◌++◌, length, Result, Ok, Err, refl, sym, ap, ◌∙◌, subst, arith}
+use Rattle.std.proofs.Common.{◌≡◌, ℕ, ◌+◌, ◌-◌, ◌*◌, ◌<◌, Bool, List, [], ◌∷◌, ◌++◌, length, Result, Ok, Err, refl, sym, ◌∙◌, subst, arith}
 use Rattle.std.proofs.lemmas.List.{length-append}
 use Rattle.std.specs.Str.Parse.{digits_value}
 use Rattle.mill_model.specs.Plans.{Plan}
 use Rattle.mill_model.specs.declared.kind.Kind.{Kind}
 use Rattle.mill_read.specs.WordsLeft.{WordsLeft}
 use Rattle.mill_read.specs.Words.{words}
-use Rattle.mill_read.specs.Reading.{Read, ◌>>=◌, number_at, list_at, no_more}
+use Rattle.mill_read.specs.Reading.{Read, ◌>>=◌, number_at, no_more}
 use Rattle.mill_read.specs.SlabWords.{is_new_at}
 use Rattle.mill_read.specs.PlanFile.{kind_of, kind_at, place_at, plan_at, most_number, most_plan_slabs}
 use Rattle.mill_read.specs.Offences.{EndBeforeSlab, plan_grammar, IsSomePlanFile, PlanFilesAreRefusedForFirstOffences}
 use Rattle.mill_read.specs.declared.fault.TextFault.{TextFault}
 use Rattle.mill_read.specs.declared.fault.Why.TheVariants.{Range}
 use Rattle.mill_read.proofs.PlanGrammar.{plan_file_is}
-use Rattle.mill_read.proofs.TextOfWords.{AreWords}
 use Rattle.mill_read.proofs.WordsAfter.{HasAfter, one_after}
 use Rattle.mill_read.proofs.Refusals.{at, Setting, GoesOn, Fine, Refused, ItemStep, then_number, then_kind, then_item, then_list, one, nothing, fine_same, fine_number, fine_kind, fine_list, fine_end}
 use Rattle.mill_read.proofs.FirstOffences.{Agrees, begins_shorter, begins_never, goes_begin, begins_before, refuses_first_offences}

@@ -1,6 +1,5 @@
 -- Yard files: a refusal is one of the first offence.
-use Rattle.std.proofs.Common.{◌≡◌, ◌⊎◌, inl, inr, ℕ, zero, suc, ◌+◌, ◌-◌, ◌<◌, ◌≤◌, true, List, [], ◌∷◌, ◌++◌, length, Result, Ok, Err, refl, sym, ap, ◌∙◌, subst, append_assoc, append-nil, arith}
-use Rattle.std.proofs.lemmas.List.{length-append}
+use Rattle.std.proofs.Common.{◌≡◌, ◌⊎◌, inl, inr, ℕ, zero, suc, ◌+◌, ◌-◌, ◌≤◌, true, List, [], ◌∷◌, ◌++◌, length, Result, Ok, Err, refl, sym, ap, ◌∙◌, subst, append_assoc, append-nil, arith}
 use Rattle.std.proofs.lemmas.List.Elements.{All-from_recursion, recursion_from_All}
 use Rattle.std.specs.List.{AllZip, AllByRecursion, flat_map}
 use Rattle.std.specs.Str.Parse.{digits_value}
@@ -10,9 +9,8 @@ use Rattle.mill_read.specs.Words.{words, is_number}
 use Rattle.mill_read.specs.Tokens.{Token, Numeral, Spells, numerals}
 use Rattle.mill_read.specs.Reading.{Read, ◌>>=◌, fault, number_at, list_at, unless_end, no_more}
 use Rattle.mill_read.specs.YardFile.{bar_at, bars_at, yard_at, size_tokens}
-use Rattle.mill_read.specs.Offences.{Grammar, IsOver, AnnounceNoBar, yard_grammar, IsSomeYardFile, YardFilesAreRefusedForFirstOffences}
+use Rattle.mill_read.specs.Offences.{IsOver, AnnounceNoBar, yard_grammar, IsSomeYardFile, YardFilesAreRefusedForFirstOffences}
 use Rattle.mill_read.specs.declared.fault.TextFault.{TextFault}
-use Rattle.mill_read.specs.declared.fault.Why.{Why}
 use Rattle.mill_read.specs.declared.fault.Why.TheVariants.{Missing, Range}
 use Rattle.mill_read.proofs.Readers.{number_reader, list_reader, one_numeral, flat_map-one_numeral, zip_join, zip_parts, gives_word}
 use Rattle.mill_read.proofs.YardGrammar.{yard_file_is}
