@@ -1,5 +1,5 @@
--- The words of a command line as a grammar, apart from how they are read: words in their places, then options, in any order and
--- each at most once; and the first word that can't stand.
+-- The words of a command line as a grammar, apart from how they are read: words in their places, then options, in any
+-- order and each at most once; and the first word that can't stand.
 use Rattle.std.specs.Prelude.{◌≡◌, ◌↔◌, ◌⊎◌, ℕ, ◌+◌, ◌≤◌, ◌&&◌, Bool, true, List, [], ◌∷◌, ◌++◌, length, if◌then◌else◌, Option, Some, None, Ok, Err}
 use Rattle.std.specs.Str.{bytes_eq}
 use Rattle.std.specs.Fmt.{decimal}
@@ -52,7 +52,8 @@ pub record IsOption {O : Type 0} (rule : OptionRule O) (before : O) (name value 
 -- they are the option of one of these rules
 abbrev pub IsSomeOption : {O : Type 0} → List (OptionRule O) → O → List ℕ → List ℕ → O → Type 0
 IsSomeOption [] before name value after = ⊥
-IsSomeOption (rule ∷ rules) before name value after = IsOption rule before name value after ⊎ IsSomeOption rules before name value after
+IsSomeOption (rule ∷ rules) before name value after =
+    IsOption rule before name value after ⊎ IsSomeOption rules before name value after
 
 -- the words are options, in any order, and none of those that were given before
 abbrev pub AreOptions : {O : Type 0} → List (OptionRule O) → O → List (List ℕ) → O → Type 0
@@ -66,7 +67,8 @@ AreOptions {O} rules before (name ∷ value ∷ words) after =
 -- a file word, and after it words that are so
 abbrev pub FileThen : {J : Type 0} → (List ℕ → List (List ℕ) → J → Type 0) → List (List ℕ) → J → Type 0
 FileThen Then words job =
-    (file : List ℕ) × (rest : List (List ℕ)) × (words ≡ file ∷ rest) × (is_file_word file ≡ true) × Then file rest job
+    (file : List ℕ) × (rest : List (List ℕ)) × (words ≡ file ∷ rest)
+    × (is_file_word file ≡ true) × Then file rest job
 
 -- the decimal text of a number within these bounds, and after it words that are so
 abbrev pub NumberThen : {J : Type 0} → ℕ → ℕ → (ℕ → List (List ℕ) → J → Type 0) → List (List ℕ) → J → Type 0
@@ -75,7 +77,8 @@ NumberThen least most Then words job =
 
 -- options, of which this job is made
 abbrev pub OptionsFor : {O J : Type 0} → List (OptionRule O) → O → (O → J) → List (List ℕ) → J → Type 0
-OptionsFor {O} rules none make words job = (options : O) × AreOptions rules none words options × (job ≡ make options)
+OptionsFor {O} rules none make words job =
+    (options : O) × AreOptions rules none words options × (job ≡ make options)
 
 -- no word more
 abbrev pub EndsWith : {J : Type 0} → J → List (List ℕ) → J → Type 0
@@ -92,7 +95,8 @@ pub record CommandRule (J : Type 0) : Type 1 where
 -- the job of the command of this name
 abbrev pub job_by : {J : Type 0} → List (CommandRule J) → List ℕ → List (List ℕ) → Parsed J
 job_by [] command words = Err 1
-job_by (rule ∷ rules) command words = if bytes_eq command rule.name then rule.reading words else job_by rules command words
+job_by (rule ∷ rules) command words =
+    if bytes_eq command rule.name then rule.reading words else job_by rules command words
 
 abbrev pub command_by : {J : Type 0} → List (CommandRule J) → List (List ℕ) → Parsed J
 command_by rules [] = Err 1
@@ -101,7 +105,8 @@ command_by rules (command ∷ words) = job_by rules command words
 -- the words are the name of one of these commands, and after it words that ask for this job
 abbrev pub IsSomeCommand : {J : Type 0} → List (CommandRule J) → List (List ℕ) → J → Type 0
 IsSomeCommand [] words job = ⊥
-IsSomeCommand (rule ∷ rules) words job = ((rest : List (List ℕ)) × (words ≡ rule.name ∷ rest) × rule.Asks rest job) ⊎ IsSomeCommand rules words job
+IsSomeCommand (rule ∷ rules) words job =
+    ((rest : List (List ℕ)) × (words ≡ rule.name ∷ rest) × rule.Asks rest job) ⊎ IsSomeCommand rules words job
 
 -- ---- the first word that can't stand
 
@@ -125,8 +130,10 @@ pub record IsFirstWrong {J : Type 0} (IsCommand : List (List ℕ) → J → Type
 
 -- a reading of words gives just the jobs of the grammar
 abbrev pub ReadsCommands : {J : Type 0} → (List (List ℕ) → J → Type 0) → (List (List ℕ) → Parsed J) → Type 0
-ReadsCommands {J} IsCommand reading = (words : List (List ℕ)) (job : J) → (reading words ≡ Ok job) ↔ IsCommand words job
+ReadsCommands {J} IsCommand reading = (words : List (List ℕ)) (job : J) →
+    (reading words ≡ Ok job) ↔ IsCommand words job
 
 -- and refuses words by the number of the first that can't stand
 abbrev pub TellsFirstWrong : {J : Type 0} → (List (List ℕ) → J → Type 0) → (List (List ℕ) → Parsed J) → Type 0
-TellsFirstWrong IsCommand reading = (words : List (List ℕ)) (number : ℕ) → (reading words ≡ Err number) ↔ IsFirstWrong IsCommand words number
+TellsFirstWrong IsCommand reading = (words : List (List ℕ)) (number : ℕ) →
+    (reading words ≡ Err number) ↔ IsFirstWrong IsCommand words number
