@@ -8,7 +8,7 @@ const NAME: &str = "reading_rows_round_trip";
 #[test]
 fn a_file_goes_out_and_comes_back(rt: HostRuntime) -> Result<(), Fail> {
     let alloc = rt.alloc();
-    let mut desk = RealDesk::new(&rt);
+    let mut desk = RealDesk::new(&rt, "reading_rows");
     assert!(rt; desk.open_file("reading_rows_no_such_file").is_err());
     assert!(rt; desk.write(b"1").is_err(), "nothing was created");
     desk.create_file(NAME)?;

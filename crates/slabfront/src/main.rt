@@ -2,22 +2,16 @@
 #![tactic(auto)]
 
 mod ended;
+mod usage;
 
 use ended::ended;
-use program_start::{end_without, start};
+use program_start::start;
 use slab_desk::RealDesk;
 use slab_node::Tally;
 use std::process::ExitCode;
+use usage::NAME;
 
 fn main(rt: HostRuntime) -> ExitCode {
-    let alloc = rt.alloc();
-    match start(&rt) {
-        Ok(begun) => ended(
-            alloc,
-            &begun.words,
-            &mut RealDesk::new(rt),
-            &mut Tally::new(),
-        ),
-        Err(why) => end_without(why),
-    }
+    let mut desk = RealDesk::new(&rt, NAME);
+    ended(rt.alloc(), &rt, start(&rt), &mut desk, &mut Tally::new())
 }

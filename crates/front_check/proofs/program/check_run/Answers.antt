@@ -1,4 +1,4 @@
-use Rattle.std.proofs.Common.{string_bytes, None, Ok, Err, inl, inr, refl, arith}
+use Rattle.std.proofs.Common.{string_bytes, Ok, Err, inl, inr, refl, arith}
 use Rattle.front_check.specs.Words.{CheckWords}
 use Rattle.front_check.specs.Jobs.{words_of}
 use Rattle.front_check.specs.Owed.{OwesOfCheck}
@@ -69,4 +69,6 @@ returns-in-Err-Fault-clause-opens g c =
 
 pub returns-in-Err-clause-opens : goal.returns-in-Err-clause-opens
 returns-in-Err-clause-opens g c =
-    opens_parsed _ (Err c.in-Err.usage.word) _ c.refuse.result _ _ c.in-Err.ensures.job (opens_nothing c.in-Err.usage.word None c.refuse.result _ _ c.refuse.ensures.named)
+    let told = g.D.Desk.told c.args.desk.now in
+    opens_parsed _ (Err c.in-Err.usage.word) told c.refuse.result _ _ c.in-Err.ensures.job
+    (opens_nothing c.in-Err.usage.word told c.refuse.result _ _ c.refuse.ensures.named)
