@@ -4,3 +4,11 @@ pub mod Readers
 pub mod OrderGrammar
 pub mod YardGrammar
 pub mod PlanGrammar
+pub mod TextOfWords
+pub mod Refusals
+pub mod TwoParts
+pub mod FirstOffences
+pub mod WordsAfter
+pub mod OrderOffences
+pub mod YardOffences
+pub mod PlanOffences

@@ -72,7 +72,7 @@ first_reader reader = record {
   again = again_first reader;
 }
 
-in_range : (low high n : ℕ) → (leb low n && leb n high) ≡ true → IsBetween low high n
+pub in_range : (low high n : ℕ) → (leb low n && leb n high) ≡ true → IsBetween low high n
 in_range low high n h = grind (arith, nat_tests)
 
 from_range : (low high n : ℕ) → IsBetween low high n → (leb low n && leb n high) ≡ true
@@ -85,7 +85,7 @@ takes_word outside low high place word n h =
     let same : digits_value 10 word ≡ n = same_ok _ _ range.1 in
     ((digits.0, same), subst (λ (m : ℕ). IsBetween low high m) same (in_range low high (digits_value 10 word) range.0))
 
-gives_word : (outside : Why) (low high place : ℕ) (word : List ℕ) (n : ℕ) → IsBetween low high n → Spells word (Numeral n) → number_in outside low high place word ≡ Ok n
+pub gives_word : (outside : Why) (low high place : ℕ) (word : List ℕ) (n : ℕ) → IsBetween low high n → Spells word (Numeral n) → number_in outside low high place word ≡ Ok n
 gives_word outside low high place word n r s =
     ap (λ (b : Bool). cond b (cond (leb low (digits_value 10 word) && leb (digits_value 10 word) high) (Ok (digits_value 10 word)) (Err (record { word = place; why = outside }))) (Err (record { word = place; why = NotNumber }))) s.0
     ∙ ap (λ (m : ℕ). cond (leb low m && leb m high) (Ok m) (Err (record { word = place; why = outside }))) s.1

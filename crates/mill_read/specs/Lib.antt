@@ -7,3 +7,4 @@ pub mod OrderFile
 pub mod YardFile
 pub mod SlabWords
 pub mod PlanFile
+pub mod Offences
