@@ -18,6 +18,6 @@ pub use cert_check::{
     CertRead, Checker, CutRead, CutReader, Failure, LineWhy, OrderList, Points, Verdict, check,
     read_cert, read_cut,
 };
-pub use laws::one_answer;
+pub use laws::{checks_are_read, first_wrong_of_check_is_told, one_answer};
 pub use program::check_run;
 pub use words::{CheckJob, CheckUsage, read_check_words};
