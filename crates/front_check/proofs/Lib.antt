@@ -5,3 +5,4 @@ pub mod Pieces
 pub mod Once
 pub mod Failing
 pub mod Opening
+pub mod Grammar

@@ -16,6 +16,6 @@ mod words;
 
 pub use cert_check::{Checker, Failure, LineWhy, OrderList, Points, Verdict, check};
 pub use cert_keep::{CertRead, CertReader, CutRead, CutReader, TooLong, read_cert, read_cut};
-pub use laws::one_answer;
+pub use laws::{checks_are_read, first_wrong_of_check_is_told, one_answer};
 pub use program::check_run;
 pub use words::{CheckJob, CheckUsage, read_check_words};
