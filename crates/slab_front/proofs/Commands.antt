@@ -69,16 +69,18 @@ more_of_file {A = A} source reading owes others files name status o more owed = 
         → MatchResult r (λ v. others v status o) (λ fault. Exactly 2 (fault_text source fault) status o)
     read (Ok value) owed = more value owed
     read (Err fault) owed = owed
+
     measured : (b : Bool) (r : Result A TextFault)
         → MatchBool b (Exactly 2 (long_text source) status o) (MatchResult r (λ v. owes v status o) (λ fault. Exactly 2 (fault_text source fault) status o))
         → MatchBool b (Exactly 2 (long_text source) status o) (MatchResult r (λ v. others v status o) (λ fault. Exactly 2 (fault_text source fault) status o))
     measured true r owed = owed
     measured false r owed = read r owed
+
     named : (x : Option (List ℕ))
         → MatchOption x ⊥ (λ bytes. MatchBool (nat_lt most_bytes (length bytes)) (Exactly 2 (long_text source) status o)
-            (MatchResult (reading bytes) (λ v. owes v status o) (λ fault. Exactly 2 (fault_text source fault) status o)))
+        (MatchResult (reading bytes) (λ v. owes v status o) (λ fault. Exactly 2 (fault_text source fault) status o)))
         → MatchOption x ⊥ (λ bytes. MatchBool (nat_lt most_bytes (length bytes)) (Exactly 2 (long_text source) status o)
-            (MatchResult (reading bytes) (λ v. others v status o) (λ fault. Exactly 2 (fault_text source fault) status o)))
+        (MatchResult (reading bytes) (λ v. others v status o) (λ fault. Exactly 2 (fault_text source fault) status o)))
     named None owed = owed
     named (Some bytes) owed = measured (nat_lt most_bytes (length bytes)) (reading bytes) owed
 

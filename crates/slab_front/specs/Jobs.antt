@@ -73,10 +73,14 @@ options_at Solving = 4
 options_at Resuming = 5
 options_at Judging = 4
 
+-- how many words the options of the rounds take
+abbrev pub round_words : Options → ℕ
+round_words options = words_for options.rounds + words_for options.seed
+
 -- the number of the word after the options, of which the first has this number
 abbrev pub word_after : ℕ → Options → ℕ
 word_after first options =
-    first + words_for options.yard + words_for options.nodes + words_for options.colours + words_for options.rounds + words_for options.seed
+    first + words_for options.yard + words_for options.nodes + words_for options.colours + round_words options
 
 -- ---- answers
 

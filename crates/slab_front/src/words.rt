@@ -5,7 +5,7 @@ ghost use Rattle.std.specs.String.{string_bytes};
 ghost use Rattle.mill_model.specs.Mill.{IsBetween};
 ghost use Rattle.run_words.specs.Words.{is_file_word, file_named, number_named, word_at, name_bytes};
 ghost use Rattle.slab_front.specs.Words.{end_at, no_options, with_option as with_one_more, with_search_option as with_one_of_search, options_from, solve_of, resume_of, judge_of, make_of, job_of};
-ghost use Rattle.slab_front.specs.Jobs.{command_of, searches_for, options_at as number_of_options, options_of, word_after, IsParsed, IsInRanges, AreInRanges};
+ghost use Rattle.slab_front.specs.Jobs.{command_of, searches_for, options_at as number_of_options, options_of, round_words as words_of_rounds, word_after, IsParsed, IsInRanges, AreInRanges};
 
 use itoa::Buffer;
 use mill_model::{MOST_COLOUR_LIMIT, MOST_ORDERS};
@@ -235,9 +235,17 @@ impl<'a> Options<'a> {
         let yard = if self.yard.is_some() { 2 } else { 0 };
         let nodes = if self.nodes.is_some() { 2 } else { 0 };
         let colours = if self.colours.is_some() { 2 } else { 0 };
+        command.options_at() + yard + nodes + colours + self.round_words()
+    }
+
+    // How many words its options of the rounds take.
+    fn round_words(&self) -> u32
+        ensures value { result ≡ words_of_rounds (options_of self.now) }
+        ensures few { result ≤ 4 }
+    {
         let rounds = if self.rounds.is_some() { 2 } else { 0 };
         let seed = if self.seed.is_some() { 2 } else { 0 };
-        command.options_at() + yard + nodes + colours + rounds + seed
+        rounds + seed
     }
 
     // These options of a command with one more: its name, and the word after that, where there is one.
