@@ -1,15 +1,15 @@
 -- What a refusal shows is a first offence, and a file has one first offence.
-use Rattle.std.proofs.Common.{◌≡◌, ◌⊎◌, inl, inr, ℕ, ◌+◌, Bool, true, false, List, [], ◌∷◌, ◌++◌, length, Result, Ok, Err, refl, sym, ap, ◌∙◌, subst, append_assoc, append-nil, arith}
+use Rattle.std.proofs.Common.{◌≡◌, ℕ, ◌+◌, true, false, List, [], ◌∷◌, ◌++◌, length, Result, Ok, Err, refl, sym, ap, ◌∙◌, subst, append_assoc, append-nil}
 use Rattle.std.specs.Prelude.{◌↔◌}
 use Rattle.mill_read.specs.WordsLeft.{WordsLeft}
-use Rattle.mill_read.specs.Words.{words, is_number}
-use Rattle.mill_read.specs.Offences.{Grammar, BeginsFile, IsOver, BreaksRule, Offends, IsFirstOffence}
+use Rattle.mill_read.specs.Words.{words}
+use Rattle.mill_read.specs.Offences.{Grammar, BeginsFile, IsOver, WantsNumber, BreaksRule, Offends, IsFirstOffence}
 use Rattle.mill_read.specs.declared.fault.TextFault.{TextFault}
 use Rattle.mill_read.specs.declared.fault.Why.{Why}
 use Rattle.mill_read.specs.declared.fault.Why.TheVariants.{Missing, NotNumber, Range, Colour, Kind, Extra}
 use Rattle.mill_read.proofs.TextOfWords.{AreWords, words_joined, words_before, text_of, words_of_text, are_words}
 use Rattle.mill_read.proofs.TwoParts.{Compared, Same, Longer, Shorter, compared}
-use Rattle.mill_read.proofs.Refusals.{at, fault_of, ok_not_err, Setting, GoesOn, Ends, Breaks, Stops, Refused}
+use Rattle.mill_read.proofs.Refusals.{at, fault_of, ok_not_err, Setting, GoesOn, Ends, Numbers, Breaks, Stops, Refused}
 
 -- what a setting and a grammar have to do with one another
 pub record Agrees {B : Type 0} (g : Grammar) (s : Setting B) : Type 0 where
@@ -21,6 +21,7 @@ pub record Agrees {B : Type 0} (g : Grammar) (s : Setting B) : Type 0 where
   pub shorter : (front : List (List ℕ)) (word : List ℕ) (rest : List (List ℕ)) → g.CanStand (front ++ word ∷ rest) → g.CanStand (front ++ word ∷ [])
   pub never : (front : List (List ℕ)) (word : List ℕ) (e : TextFault) → ((after : List (List ℕ)) → s.read (at 1 (front ++ word ∷ after)) ≡ Err e) → (e.why ≡ Missing → ⊥) → g.CanStand (front ++ word ∷ []) → ⊥
   pub colours : (front : List (List ℕ)) → s.Colours front ↔ g.IsBeforeColour front
+  pub kinds : (front : List (List ℕ)) → s.Kinds front ↔ g.IsBeforeKind front
   pub refuses : (ws : List (List ℕ)) (e : TextFault) → s.read (at 1 ws) ≡ Err e → Refused s ws e
 
 -- ---- files that begin with some words
@@ -67,23 +68,26 @@ is_over g s agrees front are ends =
       none_after = λ word can. agrees.never front word (fault_of (length front + 1) Extra) (ends.none word) (λ is. cc is) can;
     }
 
+wants_number : {B : Type 0} (g : Grammar) (s : Setting B) → Agrees g s → (front : List (List ℕ)) → AreWords front → Numbers s front → WantsNumber g front
+wants_number g s agrees front are n = (agrees.goes_on front are n.0, λ kind. n.1 ((agrees.kinds front).1 kind))
+
 breaks_rule : {B : Type 0} (g : Grammar) (s : Setting B) → Agrees g s → (front : List (List ℕ)) (word : List ℕ) (why : Why) → AreWords front → Breaks s front word why → BreaksRule g front word why
 breaks_rule g s agrees front word Extra are b = is_over g s agrees front are b
-breaks_rule g s agrees front word NotNumber are b = (agrees.goes_on front are b.0, b.1)
-breaks_rule g s agrees front word Range are b = (agrees.goes_on front are b.0, b.1, λ colour. b.2 ((agrees.colours front).1 colour))
-breaks_rule g s agrees front word Colour are b = (agrees.goes_on front are b.0, b.1, (agrees.colours front).0 b.2)
+breaks_rule g s agrees front word NotNumber are b = (wants_number g s agrees front are b.0, b.1)
+breaks_rule g s agrees front word Range are b = (wants_number g s agrees front are b.0, b.1, λ colour. b.2 ((agrees.colours front).1 colour))
+breaks_rule g s agrees front word Colour are b = (wants_number g s agrees front are b.0, b.1, (agrees.colours front).0 b.2)
+breaks_rule g s agrees front word Kind are b = (agrees.goes_on front are b.0, (agrees.kinds front).0 b.1, b.2, b.3)
 breaks_rule g s agrees front word Missing are b = absurd b
-breaks_rule g s agrees front word Kind are b = absurd b
 
 stand_before : {B : Type 0} (g : Grammar) (s : Setting B) → Agrees g s → (front : List (List ℕ)) (word : List ℕ) (why : Why) → AreWords front → Breaks s front word why → g.CanStand front
 stand_before g s agrees front word Extra are b =
     let over = is_over g s agrees front are b in
     agrees.begins front (over.file, over.is_file, [], over.words_are ∙ sym (append-nil front))
-stand_before g s agrees front word NotNumber are b = agrees.goes front are b.0
-stand_before g s agrees front word Range are b = agrees.goes front are b.0
-stand_before g s agrees front word Colour are b = agrees.goes front are b.0
+stand_before g s agrees front word NotNumber are b = agrees.goes front are b.0.0
+stand_before g s agrees front word Range are b = agrees.goes front are b.0.0
+stand_before g s agrees front word Colour are b = agrees.goes front are b.0.0
 stand_before g s agrees front word Missing are b = absurd b
-stand_before g s agrees front word Kind are b = absurd b
+stand_before g s agrees front word Kind are b = agrees.goes front are b.0
 
 can_stand : {B : Type 0} (g : Grammar) (s : Setting B) → Agrees g s → (front rest : List (List ℕ)) (e : TextFault) → AreWords front → Stops s front rest e → g.CanStand front
 can_stand g s agrees front [] e are stops = agrees.goes front are stops.0
@@ -114,31 +118,36 @@ first_offence g s agrees file e is =
 
 same_rule : (g : Grammar) (front : List (List ℕ)) (word : List ℕ) (x y : Why) → BreaksRule g front word x → BreaksRule g front word y → x ≡ y
 same_rule g front word Extra Extra a b = refl
-same_rule g front word Extra NotNumber a b = absurd (b.0 a)
-same_rule g front word Extra Range a b = absurd (b.0 a)
-same_rule g front word Extra Colour a b = absurd (b.0 a)
+same_rule g front word Extra NotNumber a b = absurd (b.0.0 a)
+same_rule g front word Extra Range a b = absurd (b.0.0 a)
+same_rule g front word Extra Colour a b = absurd (b.0.0 a)
+same_rule g front word Extra Kind a b = absurd (b.0 a)
 same_rule g front word Extra Missing a b = absurd b
-same_rule g front word Extra Kind a b = absurd b
-same_rule g front word NotNumber Extra a b = absurd (a.0 b)
+same_rule g front word NotNumber Extra a b = absurd (a.0.0 b)
 same_rule g front word NotNumber NotNumber a b = refl
 same_rule g front word NotNumber Range a b = let e : true ≡ false = sym b.1 ∙ a.1 in cc e
 same_rule g front word NotNumber Colour a b = let e : true ≡ false = sym b.1 ∙ a.1 in cc e
+same_rule g front word NotNumber Kind a b = absurd (a.0.1 b.1)
 same_rule g front word NotNumber Missing a b = absurd b
-same_rule g front word NotNumber Kind a b = absurd b
-same_rule g front word Range Extra a b = absurd (a.0 b)
+same_rule g front word Range Extra a b = absurd (a.0.0 b)
 same_rule g front word Range NotNumber a b = let e : true ≡ false = sym a.1 ∙ b.1 in cc e
 same_rule g front word Range Range a b = refl
 same_rule g front word Range Colour a b = absurd (a.2 b.2)
+same_rule g front word Range Kind a b = absurd (a.0.1 b.1)
 same_rule g front word Range Missing a b = absurd b
-same_rule g front word Range Kind a b = absurd b
-same_rule g front word Colour Extra a b = absurd (a.0 b)
+same_rule g front word Colour Extra a b = absurd (a.0.0 b)
 same_rule g front word Colour NotNumber a b = let e : true ≡ false = sym a.1 ∙ b.1 in cc e
 same_rule g front word Colour Range a b = absurd (b.2 a.2)
 same_rule g front word Colour Colour a b = refl
+same_rule g front word Colour Kind a b = absurd (a.0.1 b.1)
 same_rule g front word Colour Missing a b = absurd b
-same_rule g front word Colour Kind a b = absurd b
+same_rule g front word Kind Extra a b = absurd (a.0 b)
+same_rule g front word Kind NotNumber a b = absurd (b.0.1 a.1)
+same_rule g front word Kind Range a b = absurd (b.0.1 a.1)
+same_rule g front word Kind Colour a b = absurd (b.0.1 a.1)
+same_rule g front word Kind Kind a b = refl
+same_rule g front word Kind Missing a b = absurd b
 same_rule g front word Missing y a b = absurd a
-same_rule g front word Kind y a b = absurd a
 
 same_why : (g : Grammar) (file : List ℕ) (front rest : List (List ℕ)) (x y : Why) → Offends g file front rest x → Offends g file front rest y → x ≡ y
 same_why g file front [] x y a b = a.1 ∙ sym b.1

@@ -8,5 +8,7 @@ pub mod TextOfWords
 pub mod Refusals
 pub mod TwoParts
 pub mod FirstOffences
+pub mod WordsAfter
 pub mod OrderOffences
 pub mod YardOffences
+pub mod PlanOffences

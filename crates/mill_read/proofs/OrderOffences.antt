@@ -1,42 +1,25 @@
 -- Order files: a refusal is one of the first offence.
-use Rattle.std.proofs.Common.{◌≡◌, ℕ, suc, ◌+◌, ◌*◌, ◌<◌, ◌≤◌, true, List, [], ◌∷◌, ◌++◌, length, Result, Ok, Err, refl, sym, ap, ◌∙◌, subst, arith}
+use Rattle.std.proofs.Common.{◌≡◌, ℕ, ◌+◌, ◌*◌, ◌≤◌, List, [], ◌∷◌, ◌++◌, length, Result, Ok, Err, refl, sym, ◌∙◌, subst, arith}
 use Rattle.std.proofs.lemmas.List.{length-append}
 use Rattle.std.specs.Str.Parse.{digits_value}
-use Rattle.mill_model.specs.Mill.{Mill, IsBetween, bare_mill, most_sizes, most_weight, most_colours, most_orders}
+use Rattle.mill_model.specs.Mill.{Mill, bare_mill, most_sizes, most_weight, most_colours, most_orders}
 use Rattle.mill_model.specs.declared.order.Order.{Order}
 use Rattle.mill_read.specs.WordsLeft.{WordsLeft}
-use Rattle.mill_read.specs.Words.{words, is_number}
-use Rattle.mill_read.specs.Reading.{Read, ◌>>=◌, number_at, list_at, no_more}
+use Rattle.mill_read.specs.Words.{words}
+use Rattle.mill_read.specs.Reading.{number_at, no_more}
 use Rattle.mill_read.specs.OrderFile.{order_at, mill_at}
-use Rattle.mill_read.specs.Offences.{EndWithWeight, order_grammar, IsSomeOrderFile, OrderFilesAreRefusedForFirstOffences, IsOver}
+use Rattle.mill_read.specs.Offences.{EndWithWeight, order_grammar, IsSomeOrderFile, OrderFilesAreRefusedForFirstOffences}
 use Rattle.mill_read.specs.declared.fault.TextFault.{TextFault}
 use Rattle.mill_read.specs.declared.fault.Why.TheVariants.{Range, Colour}
 use Rattle.mill_read.proofs.OrderGrammar.{order_file_is}
-use Rattle.mill_read.proofs.TextOfWords.{AreWords}
 use Rattle.mill_read.proofs.Refusals.{at, Setting, GoesOn, Fine, Refused, ItemStep, then_number, then_item, then_list, two_numbers, one, nothing, fine_same, fine_number, fine_list, fine_end}
+use Rattle.mill_read.proofs.WordsAfter.{HasAfter, one_after}
 use Rattle.mill_read.proofs.FirstOffences.{Agrees, begins_shorter, begins_never, goes_begin, begins_before, refuses_first_offences}
 
 abbrev reading : Setting Mill
-reading = record { read = mill_at; Goes = GoesOn mill_at; Colours = EndWithWeight }
+reading = record { read = mill_at; Goes = GoesOn mill_at; Colours = EndWithWeight; Kinds = λ front. ⊥ }
 
--- ---- how many words stand
-
--- the first word spells the number of sizes, and so many words follow
-record HasAfter (sizes others : ℕ) (front : List (List ℕ)) : Type 0 where
-  first : List ℕ
-  after : List (List ℕ)
-  whole : front ≡ first ∷ after
-  value : digits_value 10 first ≡ sizes
-  count : length after ≡ others
-
-one_after : (sizes others : ℕ) (front : List (List ℕ)) (word : List ℕ) → HasAfter sizes others front → HasAfter sizes (others + 1) (front ++ word ∷ [])
-one_after sizes others front word h = record {
-  first = h.first;
-  after = h.after ++ word ∷ [];
-  whole = ap (λ (ws : List (List ℕ)). ws ++ word ∷ []) h.whole;
-  value = h.value;
-  count = omega (arith, h.count, length-append h.after (word ∷ []));
-}
+-- ---- words before a colour
 
 not_weight : (sizes others : ℕ) (front : List (List ℕ)) → HasAfter sizes others front → ((before : ℕ) → others ≡ sizes + 2 + 2 * before + 1 → ⊥) → EndWithWeight front → ⊥
 not_weight sizes others front h never ends =
@@ -55,7 +38,7 @@ SizeShape sizes earlier front = HasAfter sizes (length earlier) front
 
 size_step : (sizes : ℕ) → ItemStep reading (number_at Range 1 most_weight) (SizeShape sizes) sizes
 size_step sizes earlier front k less shape fine =
-    fine_number reading Range 1 most_weight front k (λ g. g) (not_weight sizes (length earlier) front shape (λ before e. omega (arith, e, less))) (omega arith) one
+    fine_number reading Range 1 most_weight front k (λ g. g) ((λ kind. kind), not_weight sizes (length earlier) front shape (λ before e. omega (arith, e, less))) (omega arith) one
     (λ word n is value between. fine n (front ++ word ∷ []) (subst (λ (c : ℕ). HasAfter sizes c (front ++ word ∷ [])) (sym (length-append earlier (n ∷ []))) (one_after sizes (length earlier) front word shape)))
 
 -- ---- orders
@@ -81,9 +64,9 @@ order_step : (sizes colours total : ℕ) → 1 ≤ colours → ItemStep reading 
 order_step sizes colours total some earlier front k less shape fine =
     fine_same reading front (then_number Range 1 most_weight (λ w. then_number Colour 1 colours (λ c. k (order_of w c)))) (then_item (order_at colours) k) (same_order colours k)
     (fine_number reading Range 1 most_weight front (λ w. then_number Colour 1 colours (λ c. k (order_of w c))) (λ g. g)
-    (not_weight sizes (sizes + 2 + 2 * length earlier) front shape (λ before e. omega (arith, e))) (omega arith) one
+    ((λ kind. kind), not_weight sizes (sizes + 2 + 2 * length earlier) front shape (λ before e. omega (arith, e))) (omega arith) one
     (λ a w is value between. fine_number reading Colour 1 colours (front ++ a ∷ []) (λ c. k (order_of w c)) (λ g. g)
-    (weight sizes (sizes + 2 + 2 * length earlier + 1) (front ++ a ∷ []) (one_after sizes (sizes + 2 + 2 * length earlier) front a shape) (length earlier) refl) some one
+    ((λ kind. kind), weight sizes (sizes + 2 + 2 * length earlier + 1) (front ++ a ∷ []) (one_after sizes (sizes + 2 + 2 * length earlier) front a shape) (length earlier) refl) some one
     (λ b c is_b value_b between_b. fine (order_of w c) ((front ++ a ∷ []) ++ b ∷ []) (order_shape sizes earlier (order_of w c) front a b shape))))
 
 -- ---- the whole file
@@ -111,13 +94,13 @@ fine_orders count sizes colours n front some shape =
 
 fine_order_count : (count : ℕ) (sizes : List ℕ) (colours : ℕ) (front : List (List ℕ)) → 1 ≤ colours → HasAfter count (count + 1) front → Fine reading front (after_colours sizes colours)
 fine_order_count count sizes colours front some shape =
-    fine_number reading Range 0 most_orders front (after_order_count sizes colours) (λ g. g) (not_weight count (count + 1) front shape (λ before e. omega (arith, e))) (omega arith) nothing
+    fine_number reading Range 0 most_orders front (after_order_count sizes colours) (λ g. g) ((λ kind. kind), not_weight count (count + 1) front shape (λ before e. omega (arith, e))) (omega arith) nothing
     (λ word n is value between. fine_orders count sizes colours n (front ++ word ∷ []) some
     (subst (λ (c : ℕ). HasAfter count c (front ++ word ∷ [])) (omega arith) (one_after count (count + 1) front word shape)))
 
 fine_colours : (count : ℕ) (sizes : List ℕ) (front : List (List ℕ)) → HasAfter count count front → Fine reading front (after_sizes sizes)
 fine_colours count sizes front shape =
-    fine_number reading Range 1 most_colours front (after_colours sizes) (λ g. g) (not_weight count count front shape (λ before e. omega (arith, e))) (omega arith) one
+    fine_number reading Range 1 most_colours front (after_colours sizes) (λ g. g) ((λ kind. kind), not_weight count count front shape (λ before e. omega (arith, e))) (omega arith) one
     (λ word colours is value between. fine_order_count count sizes colours (front ++ word ∷ []) between.0 (one_after count count front word shape))
 
 fine_sizes : (count : ℕ) (word : List ℕ) → digits_value 10 word ≡ count → Fine reading (word ∷ []) (after_size_count count)
@@ -127,7 +110,7 @@ fine_sizes count word value =
     (λ sizes now l shape. fine_colours count sizes now (subst (λ (c : ℕ). HasAfter count c now) l shape))
 
 fine_file : Fine reading [] (then_number Range 1 most_sizes after_size_count)
-fine_file = fine_number reading Range 1 most_sizes [] after_size_count (λ g. g) (λ none. none) (omega arith) one (λ word count is value between. fine_sizes count word value)
+fine_file = fine_number reading Range 1 most_sizes [] after_size_count (λ g. g) ((λ kind. kind), λ none. none) (omega arith) one (λ word count is value between. fine_sizes count word value)
 
 same_file : (left : WordsLeft) → mill_at left ≡ then_number Range 1 most_sizes after_size_count left
 unfolding mill_at
@@ -154,6 +137,7 @@ agrees = record {
   shorter = begins_shorter IsSomeOrderFile;
   never = λ front word e never missing can. begins_never IsSomeOrderFile mill_at read_so front word e never can;
   colours = λ front. ((λ c. c), (λ c. c));
+  kinds = λ front. ((λ c. c), (λ c. c));
   refuses = refuses;
 }
 

@@ -1,13 +1,16 @@
 -- Readings that refuse a file for its first offence, step by step: what is known of the words before a place, where reading goes
 -- on there in some way.
-use Rattle.std.proofs.Common.{◌≡◌, ◌⊎◌, inl, inr, ℕ, zero, suc, ◌+◌, ◌<◌, ◌≤◌, Bool, true, false, cond, ◌&&◌, List, [], ◌∷◌, ◌++◌, length, Result, Ok, Err, refl, sym, ap, ◌∙◌, subst, append_assoc, append-nil, arith, leb}
+use Rattle.std.proofs.Common.{◌≡◌, ℕ, zero, suc, ◌+◌, ◌<◌, ◌≤◌, Bool, true, false, cond, ◌&&◌, List, [], ◌∷◌, ◌++◌, length, Result, Ok, Err, refl, sym, ap, ◌∙◌, subst, append_assoc, append-nil, arith, leb}
 use Rattle.std.proofs.lemmas.List.{length-append}
 use Rattle.std.proofs.lemmas.List.Elements.{All-from_recursion}
+use Rattle.std.specs.Str.{bytes_eq}
 use Rattle.std.specs.Str.Parse.{digits_value}
+use Rattle.std.proofs.lemmas.Slice.Eq.{bytes_eq-Decides}
 use Rattle.mill_model.specs.Mill.{IsBetween}
 use Rattle.mill_read.specs.WordsLeft.{WordsLeft}
 use Rattle.mill_read.specs.Words.{is_number, is_space}
 use Rattle.mill_read.specs.Reading.{Read, ◌>>=◌, fault, number_in, number_at, list_at, no_more}
+use Rattle.mill_read.specs.SlabWords.{is_new_in, is_new_at, new_word, old_word}
 use Rattle.mill_read.specs.declared.fault.TextFault.{TextFault}
 use Rattle.mill_read.specs.declared.fault.Why.{Why}
 use Rattle.mill_read.specs.declared.fault.Why.TheVariants.{Missing, NotNumber, Range, Colour, Kind, Extra}
@@ -29,11 +32,12 @@ same_err x y h = cc
 pub ok_not_err : {A : Type 0} (x : A) (e : TextFault) → (let r : Result A TextFault = Ok x in r ≡ Err e) → ⊥
 ok_not_err x e h = cc
 
--- a reading of a whole file, what is shown of words that stand, and which words stand before a colour
+-- a reading of a whole file, what is shown of words that stand, and which words stand before a colour, and before new or old
 pub record Setting (B : Type 0) : Type 1 where
   pub read : WordsLeft → Result B TextFault
   pub Goes : List (List ℕ) → Type 0
   pub Colours : List (List ℕ) → Type 0
+  pub Kinds : List (List ℕ) → Type 0
 
 -- with one word more at least, these are read
 pub record GoesOn {B : Type 0} (read : WordsLeft → Result B TextFault) (before : List (List ℕ)) : Type 0 where
@@ -49,13 +53,17 @@ pub record Ends {B : Type 0} (read : WordsLeft → Result B TextFault) (before :
   pub whole : read (at 1 before) ≡ Ok value
   pub none : (word : List ℕ) (after : List (List ℕ)) → read (at 1 (before ++ word ∷ after)) ≡ fault (length before + 1) Extra
 
+-- words stand here, before a number
+abbrev pub Numbers : {B : Type 0} → Setting B → List (List ℕ) → Type 0
+Numbers s before = s.Goes before × (s.Kinds before → ⊥)
+
 abbrev pub Breaks : {B : Type 0} → Setting B → List (List ℕ) → List ℕ → Why → Type 0
 Breaks s before word Extra = Ends s.read before
-Breaks s before word NotNumber = s.Goes before × (is_number word ≡ false)
-Breaks s before word Range = s.Goes before × (is_number word ≡ true) × (s.Colours before → ⊥)
-Breaks s before word Colour = s.Goes before × (is_number word ≡ true) × s.Colours before
+Breaks s before word NotNumber = Numbers s before × (is_number word ≡ false)
+Breaks s before word Range = Numbers s before × (is_number word ≡ true) × (s.Colours before → ⊥)
+Breaks s before word Colour = Numbers s before × (is_number word ≡ true) × s.Colours before
+Breaks s before word Kind = s.Goes before × s.Kinds before × (word ≡ new_word → ⊥) × (word ≡ old_word → ⊥)
 Breaks s before word Missing = ⊥
-Breaks s before word Kind = ⊥
 
 abbrev pub Stops : {B : Type 0} → Setting B → List (List ℕ) → List (List ℕ) → TextFault → Type 0
 Stops s before [] e = s.Goes before × (e.why ≡ Missing)
@@ -107,16 +115,24 @@ one_more front word = omega (arith, length-append front (word ∷ []))
 
 -- which words stand before a number whose range has this why
 abbrev pub OutsideIs : {B : Type 0} → Setting B → List (List ℕ) → Why → Type 0
-OutsideIs s front Range = s.Colours front → ⊥
-OutsideIs s front Colour = s.Colours front
+OutsideIs s front Range = (s.Kinds front → ⊥) × (s.Colours front → ⊥)
+OutsideIs s front Colour = (s.Kinds front → ⊥) × s.Colours front
 OutsideIs s front Missing = ⊥
 OutsideIs s front NotNumber = ⊥
 OutsideIs s front Kind = ⊥
 OutsideIs s front Extra = ⊥
 
+no_kind : {B : Type 0} (s : Setting B) (front : List (List ℕ)) (outside : Why) → OutsideIs s front outside → s.Kinds front → ⊥
+no_kind s front Range o = o.0
+no_kind s front Colour o = o.0
+no_kind s front Missing o = absurd o
+no_kind s front NotNumber o = absurd o
+no_kind s front Kind o = absurd o
+no_kind s front Extra o = absurd o
+
 breaks_outside : {B : Type 0} (s : Setting B) (front : List (List ℕ)) (word : List ℕ) (outside : Why) → OutsideIs s front outside → s.Goes front → is_number word ≡ true → Breaks s front word outside
-breaks_outside s front word Range o g n = (g, n, o)
-breaks_outside s front word Colour o g n = (g, n, o)
+breaks_outside s front word Range o g n = ((g, o.0), n, o.1)
+breaks_outside s front word Colour o g n = ((g, o.0), n, o.1)
 breaks_outside s front word Missing o g n = absurd o
 breaks_outside s front word NotNumber o g n = absurd o
 breaks_outside s front word Kind o g n = absurd o
@@ -200,7 +216,7 @@ told_word s outside low high front k word rest e o goes told resumes (Good n bet
     (told word (digits_value 10 word) n refl between) resumes h
 told_word s outside low high front k word rest e o goes told resumes (NoNumber n is) h =
     bad_word s front word rest NotNumber e (then_number outside low high k)
-    (λ after. number_bad outside low high k (length front + 1) NotNumber word after (is (length front + 1))) (goes, n) resumes h
+    (λ after. number_bad outside low high k (length front + 1) NotNumber word after (is (length front + 1))) ((goes, no_kind s front outside o), n) resumes h
 told_word s outside low high front k word rest e o goes told resumes (Beyond n is) h =
     bad_word s front word rest outside e (then_number outside low high k)
     (λ after. number_bad outside low high k (length front + 1) outside word after (is (length front + 1))) (breaks_outside s front word outside o goes n) resumes h
@@ -258,6 +274,69 @@ fine_number s outside low high front k goes o fits least fine =
       told = λ resumes words e h. told_number s outside low high front k o
           (goes (record { word = least.word; more = on.0; are_words = on.1; value = on.2; reads = resumes (least.word ∷ on.0) ∙ on.3 }))
           (λ word n is value between. (fine word n is value between).told) (λ word rest. resumes (word ∷ rest)) words e h;
+    }
+
+-- ---- new or old
+
+-- reading such a word, and going on
+abbrev pub then_kind : {B : Type 0} → (Bool → WordsLeft → Result B TextFault) → WordsLeft → Result B TextFault
+then_kind k left = is_new_at left >>= λ b. k b.0 b.1
+
+kind_none : {B : Type 0} (k : Bool → WordsLeft → Result B TextFault) (number : ℕ) → then_kind k (at number []) ≡ fault number Missing
+unfolding is_new_at
+kind_none k number = refl
+
+kind_good : {B : Type 0} (k : Bool → WordsLeft → Result B TextFault) (number : ℕ) (b : Bool) (word : List ℕ) (rest : List (List ℕ))
+    → is_new_in number word ≡ Ok b → then_kind k (at number (word ∷ rest)) ≡ k b (at (number + 1) rest)
+unfolding is_new_at
+kind_good k number b word rest h = ap (λ (r : Result Bool TextFault). taken r (at (number + 1) rest) >>= λ x. k x.0 x.1) h
+
+kind_bad : {B : Type 0} (k : Bool → WordsLeft → Result B TextFault) (number : ℕ) (word : List ℕ) (rest : List (List ℕ))
+    → is_new_in number word ≡ fault number Kind → then_kind k (at number (word ∷ rest)) ≡ fault number Kind
+unfolding is_new_at
+kind_bad k number word rest h = ap (λ (r : Result Bool TextFault). taken r (at (number + 1) rest) >>= λ x. k x.0 x.1) h
+
+-- a word is new or old, or neither
+data KindTested (word : List ℕ) : Type 0 where
+  IsKind : (b : Bool) → ((place : ℕ) → is_new_in place word ≡ Ok b) → KindTested word
+  Neither : (word ≡ new_word → ⊥) → (word ≡ old_word → ⊥) → ((place : ℕ) → is_new_in place word ≡ fault place Kind) → KindTested word
+
+kind_by : (word : List ℕ) (a b : Bool) → bytes_eq word new_word ≡ a → bytes_eq word old_word ≡ b → KindTested word
+kind_by word true b e f = IsKind true (λ place. ap (λ (x : Bool). cond x (Ok true) (cond (bytes_eq word old_word) (Ok false) (fault place Kind))) e)
+kind_by word false true e f = IsKind false (λ place. ap (λ (x : Bool). cond x (Ok true) (cond (bytes_eq word old_word) (Ok false) (fault place Kind))) e ∙ ap (λ (x : Bool). cond x (Ok false) (fault place Kind)) f)
+kind_by word false false e f =
+    Neither (λ is. let t : true ≡ false = sym ((bytes_eq-Decides word new_word).1 is) ∙ e in cc t) (λ is. let t : true ≡ false = sym ((bytes_eq-Decides word old_word).1 is) ∙ f in cc t)
+    (λ place. ap (λ (x : Bool). cond x (Ok true) (cond (bytes_eq word old_word) (Ok false) (fault place Kind))) e ∙ ap (λ (x : Bool). cond x (Ok false) (fault place Kind)) f)
+
+told_kind_word : {B : Type 0} (s : Setting B) (front : List (List ℕ)) (k : Bool → WordsLeft → Result B TextFault) (word : List ℕ) (rest : List (List ℕ)) (e : TextFault)
+    → s.Kinds front → s.Goes front → ((w : List ℕ) (b : Bool) → Told s (front ++ w ∷ []) (k b)) → ResumesAtWord s front (then_kind k) → KindTested word
+    → then_kind k (at (length front + 1) (word ∷ rest)) ≡ Err e → Refused s (front ++ word ∷ rest) e
+told_kind_word s front k word rest e kinds goes told resumes (IsKind b is) h =
+    good_word s front word rest e (then_kind k) (k b) (λ after. kind_good k (length front + 1) b word after (is (length front + 1))) (told word b) resumes h
+told_kind_word s front k word rest e kinds goes told resumes (Neither new old is) h =
+    bad_word s front word rest Kind e (then_kind k) (λ after. kind_bad k (length front + 1) word after (is (length front + 1))) (goes, kinds, new, old) resumes h
+
+told_kind : {B : Type 0} (s : Setting B) (front : List (List ℕ)) (k : Bool → WordsLeft → Result B TextFault) → s.Kinds front → s.Goes front → ((w : List ℕ) (b : Bool) → Told s (front ++ w ∷ []) (k b))
+    → ResumesAtWord s front (then_kind k) → (words : List (List ℕ)) (e : TextFault) → then_kind k (at (length front + 1) words) ≡ Err e → Refused s (front ++ words) e
+told_kind s front k kinds goes told resumes [] e h =
+    let is : fault_of (length front + 1) Missing ≡ e = same_err _ _ (sym (kind_none k (length front + 1)) ∙ h) in
+    subst (λ (x : TextFault). Refused s (front ++ []) x) is (record { before = front; rest = []; whole = refl; number = refl; stops = (goes, refl) })
+told_kind s front k kinds goes told resumes (word ∷ rest) e h =
+    told_kind_word s front k word rest e kinds goes told resumes (kind_by word (bytes_eq word new_word) (bytes_eq word old_word) refl refl) h
+
+new_is_word : IsWord new_word
+new_is_word = record { some = omega arith; part = All-from_recursion (λ b. is_space b ≡ false) new_word (refl, (refl, (refl, tt))) }
+
+pub fine_kind : {B : Type 0} (s : Setting B) (front : List (List ℕ)) (k : Bool → WordsLeft → Result B TextFault) → (GoesOn s.read front → s.Goes front) → s.Kinds front
+    → ((word : List ℕ) (b : Bool) → Fine s (front ++ word ∷ []) (k b)) → Fine s front (then_kind k)
+fine_kind {B} s front k goes kinds fine =
+    let d : Done (k true) (length front + 1 + 1) = subst (λ (n : ℕ). Done (k true) n) (sym (one_more front new_word)) (fine new_word true).done in
+    let reads : then_kind k (at (length front + 1) (new_word ∷ d.0)) ≡ Ok d.2 = kind_good k (length front + 1) true new_word d.0 refl ∙ d.3 in
+    record {
+      done = (new_word ∷ d.0, (new_is_word, d.1), d.2, reads);
+      told = λ resumes words e h. told_kind s front k kinds
+          (goes (record { word = new_word; more = d.0; are_words = (new_is_word, d.1); value = d.2; reads = resumes (new_word ∷ d.0) ∙ reads }))
+          (λ w b. (fine w b).told) (λ word rest. resumes (word ∷ rest)) words e h;
     }
 
 -- ---- a list

@@ -1,11 +1,11 @@
 -- Yard files: what is read is spelled so, and what is spelled so is read.
-use Rattle.std.proofs.Common.{◌≡◌, ℕ, ◌+◌, ◌-◌, ◌<◌, ◌≤◌, List, [], ◌∷◌, ◌++◌, length, Ok, refl, sym, ap, ◌∙◌, subst, append-nil, append_assoc, arith, ◌⊎◌, inl, inr, All}
+use Rattle.std.proofs.Common.{◌≡◌, ℕ, ◌+◌, ◌-◌, ◌<◌, ◌≤◌, List, [], ◌∷◌, ◌++◌, length, Ok, refl, sym, ap, ◌∙◌, subst, append-nil, arith, ◌⊎◌, inl, inr, All}
 use Rattle.std.specs.Prelude.{◌↔◌}
 use Rattle.std.proofs.lemmas.List.Elements.{All-from_recursion, recursion_from_All}
 use Rattle.std.specs.List.{AllZip, AllByRecursion, flat_map}
 use Rattle.mill_model.specs.Mill.{Bar, Yard, IsYard, AreBarsAmong, IsBetween, most_weight, most_orders, most_slabs, most_bars}
 use Rattle.mill_read.specs.WordsLeft.{WordsLeft}
-use Rattle.mill_read.specs.Tokens.{Token, Numeral, Spells, numerals}
+use Rattle.mill_read.specs.Tokens.{Token, Numeral, Spells}
 use Rattle.mill_read.specs.Reading.{Read, ◌>>=◌, number_at, list_at, unless_end, no_more}
 use Rattle.mill_read.specs.YardFile.{bar_at, bars_at, yard_at, yard_file, size_tokens, bar_tokens, bar_list_tokens, IsYardFile}
 use Rattle.mill_read.specs.declared.fault.Why.TheVariants.{Range}

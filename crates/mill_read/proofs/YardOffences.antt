@@ -1,6 +1,5 @@
 -- Yard files: a refusal is one of the first offence.
-use Rattle.std.proofs.Common.{◌≡◌, ◌⊎◌, inl, inr, ℕ, zero, suc, ◌+◌, ◌-◌, ◌<◌, ◌≤◌, true, List, [], ◌∷◌, ◌++◌, length, Result, Ok, Err, refl, sym, ap, ◌∙◌, subst, append_assoc, append-nil, arith}
-use Rattle.std.proofs.lemmas.List.{length-append}
+use Rattle.std.proofs.Common.{◌≡◌, ◌⊎◌, inl, inr, ℕ, zero, suc, ◌+◌, ◌-◌, ◌≤◌, true, List, [], ◌∷◌, ◌++◌, length, Result, Ok, Err, refl, sym, ap, ◌∙◌, subst, append_assoc, append-nil, arith}
 use Rattle.std.proofs.lemmas.List.Elements.{All-from_recursion, recursion_from_All}
 use Rattle.std.specs.List.{AllZip, AllByRecursion, flat_map}
 use Rattle.std.specs.Str.Parse.{digits_value}
@@ -10,9 +9,8 @@ use Rattle.mill_read.specs.Words.{words, is_number}
 use Rattle.mill_read.specs.Tokens.{Token, Numeral, Spells, numerals}
 use Rattle.mill_read.specs.Reading.{Read, ◌>>=◌, fault, number_at, list_at, unless_end, no_more}
 use Rattle.mill_read.specs.YardFile.{bar_at, bars_at, yard_at, size_tokens}
-use Rattle.mill_read.specs.Offences.{Grammar, IsOver, AnnounceNoBar, yard_grammar, IsSomeYardFile, YardFilesAreRefusedForFirstOffences}
+use Rattle.mill_read.specs.Offences.{IsOver, AnnounceNoBar, yard_grammar, IsSomeYardFile, YardFilesAreRefusedForFirstOffences}
 use Rattle.mill_read.specs.declared.fault.TextFault.{TextFault}
-use Rattle.mill_read.specs.declared.fault.Why.{Why}
 use Rattle.mill_read.specs.declared.fault.Why.TheVariants.{Missing, Range}
 use Rattle.mill_read.proofs.Readers.{number_reader, list_reader, one_numeral, flat_map-one_numeral, zip_join, zip_parts, gives_word}
 use Rattle.mill_read.proofs.YardGrammar.{yard_file_is}
@@ -24,7 +22,7 @@ abbrev NoBarAfter : ℕ → List (List ℕ) → Type 0
 NoBarAfter orders front = (rest : List (List ℕ)) × AnnounceNoBar orders (front ++ rest)
 
 abbrev reading : ℕ → Setting Yard
-reading orders = record { read = yard_at orders; Goes = λ front. GoesOn (yard_at orders) front ⊎ NoBarAfter orders front; Colours = λ front. ⊥ }
+reading orders = record { read = yard_at orders; Goes = λ front. GoesOn (yard_at orders) front ⊎ NoBarAfter orders front; Colours = λ front. ⊥; Kinds = λ front. ⊥ }
 
 abbrev yard_of : List ℕ → List Bar → Yard
 yard_of sizes bars = record { sizes = sizes; bars = bars }
@@ -59,7 +57,7 @@ begun_more slabs sizes front word n begun is value between = record {
 
 size_step : (orders slabs : ℕ) → ItemStep (reading orders) (number_at Range 1 most_weight) (Begun slabs) slabs
 size_step orders slabs earlier front k less begun fine =
-    fine_number (reading orders) Range 1 most_weight front k (λ g. inl g) (λ none. none) (omega arith) one
+    fine_number (reading orders) Range 1 most_weight front k (λ g. inl g) ((λ kind. kind), λ none. none) (omega arith) one
     (λ word n is value between. fine n (front ++ word ∷ []) (begun_more slabs earlier front word n begun is value between))
 
 -- ---- bars
@@ -81,8 +79,8 @@ BarShape earlier front = Unit {0}
 bar_step : (orders slabs total : ℕ) → 1 ≤ orders → 1 ≤ slabs → ItemStep (reading orders) (bar_at orders slabs) BarShape total
 bar_step orders slabs total some_order some_slab earlier front k less shape fine =
     fine_same (reading orders) front (then_number Range 1 orders (λ o. then_number Range 1 slabs (λ s. k (bar_of o s)))) (then_item (bar_at orders slabs) k) (same_bar orders slabs k)
-    (fine_number (reading orders) Range 1 orders front (λ o. then_number Range 1 slabs (λ s. k (bar_of o s))) (λ g. inl g) (λ none. none) some_order one
-    (λ a o is value between. fine_number (reading orders) Range 1 slabs (front ++ a ∷ []) (λ s. k (bar_of o s)) (λ g. inl g) (λ none. none) some_slab one
+    (fine_number (reading orders) Range 1 orders front (λ o. then_number Range 1 slabs (λ s. k (bar_of o s))) (λ g. inl g) ((λ kind. kind), λ none. none) some_order one
+    (λ a o is value between. fine_number (reading orders) Range 1 slabs (front ++ a ∷ []) (λ s. k (bar_of o s)) (λ g. inl g) ((λ kind. kind), λ none. none) some_slab one
     (λ b s is_b value_b between_b. fine (bar_of o s) ((front ++ a ∷ []) ++ b ∷ []) tt)))
 
 -- a first bar, and the others
@@ -115,7 +113,7 @@ no_order sizes others front a = record {
 told_no_order : (sizes : List ℕ) (others : ℕ) (front : List (List ℕ)) → Announced sizes (suc others) front → Told (reading 0) front (after_bar_count 0 (length sizes) sizes (suc others))
 told_no_order sizes others front a =
     told_same (reading 0) front (then_number Range 1 0 (first_bar 0 (length sizes) sizes others)) (after_bar_count 0 (length sizes) sizes (suc others)) (same_bars 0 (length sizes) sizes others)
-    (λ resumes ws e h. told_number (reading 0) Range 1 0 front (first_bar 0 (length sizes) sizes others) (λ none. none) (inr ([], no_order sizes others front a))
+    (λ resumes ws e h. told_number (reading 0) Range 1 0 front (first_bar 0 (length sizes) sizes others) ((λ kind. kind), λ none. none) (inr ([], no_order sizes others front a))
     (λ word n is value between. absurd (omega (arith, between))) (λ word rest. resumes (word ∷ rest)) ws e h)
 
 -- without a surplus slab none can either, but for the number of its order
@@ -132,14 +130,14 @@ no_slab orders order others front word a is value between = record {
 told_slab_of_none : (orders order others : ℕ) (front : List (List ℕ)) (word : List ℕ) → Announced [] (suc others) front → is_number word ≡ true → digits_value 10 word ≡ order → IsBetween 1 orders order
     → Told (reading orders) (front ++ word ∷ []) (first_bar orders 0 [] others order)
 told_slab_of_none orders order others front word a is value between resumes ws e h =
-    told_number (reading orders) Range 1 0 (front ++ word ∷ []) (λ s. then_list (bar_at orders 0) others (λ bars. after_bars [] (bar_of order s ∷ bars))) (λ none. none)
+    told_number (reading orders) Range 1 0 (front ++ word ∷ []) (λ s. then_list (bar_at orders 0) others (λ bars. after_bars [] (bar_of order s ∷ bars))) ((λ kind. kind), λ none. none)
     (inr ([], subst (AnnounceNoBar orders) (sym (append-nil (front ++ word ∷ []))) (no_slab orders order others front word a is value between)))
     (λ v n is_v value_v between_v. absurd (omega (arith, between_v))) (λ v rest. resumes (v ∷ rest)) ws e h
 
 told_no_slab : (orders others : ℕ) (front : List (List ℕ)) → 1 ≤ orders → Announced [] (suc others) front → Told (reading orders) front (after_bar_count orders 0 [] (suc others))
 told_no_slab orders others front some a =
     told_same (reading orders) front (then_number Range 1 orders (first_bar orders 0 [] others)) (after_bar_count orders 0 [] (suc others)) (same_bars orders 0 [] others)
-    (λ resumes ws e h. told_number (reading orders) Range 1 orders front (first_bar orders 0 [] others) (λ none. none)
+    (λ resumes ws e h. told_number (reading orders) Range 1 orders front (first_bar orders 0 [] others) ((λ kind. kind), λ none. none)
     (inr (one.word ∷ [], no_slab orders 1 others front one.word a one.number one.value (omega arith, some)))
     (λ word order is value between. told_slab_of_none orders order others front word a is value between) (λ word rest. resumes (word ∷ rest)) ws e h)
 
@@ -178,7 +176,7 @@ no_bars_read orders slabs sizes number =
 told_after : (orders : ℕ) (sizes : List ℕ) (front : List (List ℕ)) → length sizes ≤ most_slabs → Begun (length sizes) sizes front → Told (reading orders) front (after_sizes orders (length sizes) sizes)
 told_after orders sizes front few begun resumes [] e h = absurd (ok_not_err (yard_of sizes []) e h)
 told_after orders sizes front few begun resumes (word ∷ rest) e h =
-    told_number (reading orders) Range 0 most_bars front (after_bar_count orders (length sizes) sizes) (λ none. none)
+    told_number (reading orders) Range 0 most_bars front (after_bar_count orders (length sizes) sizes) ((λ kind. kind), λ none. none)
     (inl (record {
       word = nothing.word;
       more = [];
@@ -210,7 +208,7 @@ fine_sizes orders slabs word is value few =
     (λ sizes now same begun. fine_later orders slabs sizes now same few begun)
 
 fine_file : (orders : ℕ) → Fine (reading orders) [] (then_number Range 0 most_slabs (after_size_count orders))
-fine_file orders = fine_number (reading orders) Range 0 most_slabs [] (after_size_count orders) (λ g. inl g) (λ none. none) (omega arith) nothing (λ word slabs is value between. fine_sizes orders slabs word is value between.1)
+fine_file orders = fine_number (reading orders) Range 0 most_slabs [] (after_size_count orders) (λ g. inl g) ((λ kind. kind), λ none. none) (omega arith) nothing (λ word slabs is value between. fine_sizes orders slabs word is value between.1)
 
 same_file : (orders : ℕ) (left : WordsLeft) → yard_at orders left ≡ then_number Range 0 most_slabs (after_size_count orders) left
 unfolding yard_at
@@ -350,6 +348,7 @@ agrees orders few = record {
   shorter = shorter orders;
   never = never orders few;
   colours = λ front. ((λ c. c), (λ c. c));
+  kinds = λ front. ((λ c. c), (λ c. c));
   refuses = refuses orders;
 }
 

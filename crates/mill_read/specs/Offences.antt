@@ -1,13 +1,16 @@
--- The first word of a file that can't stand, and the rule that it breaks: what a refusal says of the words of an order file or
--- a yard file.
-use Rattle.std.specs.Prelude.{◌≡◌, ◌↔◌, ◌⊎◌, ℕ, ◌+◌, ◌*◌, ◌≤◌, true, false, List, [], ◌∷◌, ◌++◌, length, All, Result, Err}
+-- The first word of a file that can't stand, and the rule that it breaks: what a refusal says of the words of an order file, a
+-- yard file or a plan file.
+use Rattle.std.specs.Prelude.{◌≡◌, ◌↔◌, ◌⊎◌, ℕ, ◌+◌, ◌*◌, ◌<◌, ◌≤◌, true, false, List, [], ◌∷◌, ◌++◌, length, All, Result, Err}
 use Rattle.std.specs.List.{AllZip}
 use Rattle.std.specs.Str.Parse.{digits_value}
 use Rattle.mill_model.specs.Mill.{Mill, Yard, IsBetween, most_weight, most_orders, most_slabs, most_bars}
+use Rattle.mill_model.specs.Plans.{Plan}
 use Rattle.mill_read.specs.Words.{words, is_number}
 use Rattle.mill_read.specs.Tokens.{Numeral, Spells}
 use Rattle.mill_read.specs.OrderFile.{order_file, IsOrderFile}
 use Rattle.mill_read.specs.YardFile.{yard_file, size_tokens, IsYardFile}
+use Rattle.mill_read.specs.SlabWords.{new_word, old_word}
+use Rattle.mill_read.specs.PlanFile.{plan_file, IsPlanFile}
 use Rattle.mill_read.specs.declared.fault.TextFault.{TextFault}
 use Rattle.mill_read.specs.declared.fault.Why.{Why}
 use Rattle.mill_read.specs.declared.fault.Why.TheVariants.{Missing, NotNumber, Range, Colour, Kind, Extra}
@@ -21,6 +24,8 @@ pub record Grammar : Type 1 where
   pub CanStand : List (List ℕ) → Type 0
   -- the place after these words is that of a colour
   pub IsBeforeColour : List (List ℕ) → Type 0
+  -- the place after these words is that of `new` or `old`; all other places are those of numbers
+  pub IsBeforeKind : List (List ℕ) → Type 0
 
 -- some file of the grammar begins with these words
 abbrev pub BeginsFile : (List ℕ → Type 0) → List (List ℕ) → Type 0
@@ -35,14 +40,19 @@ pub record IsOver (g : Grammar) (front : List (List ℕ)) : Type 0 where
 
 -- ---- the first offence
 
+-- a number has to stand after these words
+abbrev pub WantsNumber : Grammar → List (List ℕ) → Type 0
+WantsNumber g front = (¬ (IsOver g front)) × (¬ (g.IsBeforeKind front))
+
 -- the rule that a word breaks, which can't stand after these words
 abbrev pub BreaksRule : Grammar → List (List ℕ) → List ℕ → Why → Type 0
 BreaksRule g front word Extra = IsOver g front
-BreaksRule g front word NotNumber = (¬ (IsOver g front)) × (is_number word ≡ false)
-BreaksRule g front word Range = (¬ (IsOver g front)) × (is_number word ≡ true) × (¬ (g.IsBeforeColour front))
-BreaksRule g front word Colour = (¬ (IsOver g front)) × (is_number word ≡ true) × g.IsBeforeColour front
+BreaksRule g front word NotNumber = WantsNumber g front × (is_number word ≡ false)
+BreaksRule g front word Range = WantsNumber g front × (is_number word ≡ true) × (¬ (g.IsBeforeColour front))
+BreaksRule g front word Colour = WantsNumber g front × (is_number word ≡ true) × g.IsBeforeColour front
+BreaksRule g front word Kind =
+    (¬ (IsOver g front)) × g.IsBeforeKind front × (¬ (word ≡ new_word)) × (¬ (word ≡ old_word))
 BreaksRule g front word Missing = ⊥
-BreaksRule g front word Kind = ⊥
 
 -- where words stand no longer: the text ends and is no file, so that a word is missing, or this word can't stand
 abbrev pub Offends : Grammar → List ℕ → List (List ℕ) → List (List ℕ) → Why → Type 0
@@ -78,6 +88,7 @@ order_grammar = record {
   IsFile = IsSomeOrderFile;
   CanStand = BeginsFile IsSomeOrderFile;
   IsBeforeColour = EndWithWeight;
+  IsBeforeKind = λ front. ⊥;
 }
 
 abbrev pub OrderFilesAreRefusedForFirstOffences : Type 0
@@ -104,8 +115,30 @@ yard_grammar orders = record {
   IsFile = IsSomeYardFile orders;
   CanStand = λ front. BeginsFile (IsSomeYardFile orders) front ⊎ ((rest : List (List ℕ)) × AnnounceNoBar orders (front ++ rest));
   IsBeforeColour = λ front. ⊥;
+  IsBeforeKind = λ front. ⊥;
 }
 
 abbrev pub YardFilesAreRefusedForFirstOffences : Type 0
 YardFilesAreRefusedForFirstOffences = (orders : ℕ) → orders ≤ most_orders →
     RefusesFirstOffences (yard_grammar orders) (yard_file orders)
+
+-- ---- plan files
+
+abbrev pub IsSomePlanFile : ℕ → List ℕ → Type 0
+IsSomePlanFile orders file = (plan : Plan) × IsPlanFile orders file plan
+
+-- after the number of slabs come some of them, and not all
+abbrev pub EndBeforeSlab : List (List ℕ) → Type 0
+EndBeforeSlab [] = ⊥
+EndBeforeSlab (slab_count ∷ others) = (before : ℕ) × (before < digits_value 10 slab_count) × (length others ≡ 2 * before)
+
+abbrev pub plan_grammar : ℕ → Grammar
+plan_grammar orders = record {
+  IsFile = IsSomePlanFile orders;
+  CanStand = BeginsFile (IsSomePlanFile orders);
+  IsBeforeColour = λ front. ⊥;
+  IsBeforeKind = EndBeforeSlab;
+}
+
+abbrev pub PlanFilesAreRefusedForFirstOffences : Type 0
+PlanFilesAreRefusedForFirstOffences = (orders : ℕ) → RefusesFirstOffences (plan_grammar orders) (plan_file orders)

@@ -5,7 +5,7 @@
 //! leading zeros may stand.
 //!
 //! Read `words` first, then `fault`, `lists` and the files: `orders`, `yards` and `plans`. `laws` says that just the
-//! texts of the grammar are read.
+//! texts of the grammar are read, and that each other text is refused for its first offence (`specs/Offences`).
 #![tactic(auto)]
 
 mod fault;
@@ -18,7 +18,8 @@ mod yards;
 
 pub use fault::{TextError, TextFault, Why};
 pub use laws::{
-    order_files_are_refused_for_first_offences, order_files_spell_mills, plan_files_spell_plans,
+    order_files_are_refused_for_first_offences, order_files_spell_mills,
+    plan_files_are_refused_for_first_offences, plan_files_spell_plans,
     yard_files_are_refused_for_first_offences, yard_files_spell_yards,
 };
 pub use orders::read_orders;

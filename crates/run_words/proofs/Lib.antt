@@ -3,3 +3,8 @@ pub mod Numbers
 pub mod Lists
 pub mod Files
 pub mod Opening
+pub mod Commands
+pub mod OptionRules
+pub mod WordRules
+pub mod CommandRules
+pub mod Forms

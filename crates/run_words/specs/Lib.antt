@@ -3,3 +3,4 @@ pub mod Texts
 pub mod Files
 pub mod Ends
 pub mod Opens
+pub mod Grammar
