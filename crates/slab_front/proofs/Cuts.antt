@@ -11,11 +11,11 @@ use Rattle.cert_rules.specs.Reading.{IsFirstBad}
 use Rattle.cert_rules.proofs.Wholes.{accepted_exactly}
 use Rattle.cert_rules.proofs.FirstBad.{one_first_bad_line}
 use Rattle.cert_rules.proofs.Standing.{failures_stay, ends_are_right}
-use Rattle.cert_check.specs.declared.verdict.CutRead.{CutRead}
-use Rattle.cert_check.specs.declared.verdict.CutRead.TheVariants as cuts
+use Rattle.cert_keep.specs.declared.kept.CutRead.{CutRead}
+use Rattle.cert_keep.specs.declared.kept.CutRead.TheVariants as cuts
 use Rattle.cert_check.specs.Whys.{why_of}
 use Rattle.cert_check.specs.Readings.{HasBadLine}
-use Rattle.cert_check.specs.Verdicts.{IsCutRead}
+use Rattle.cert_keep.specs.Reads.{IsCutRead}
 use Rattle.slab_front.specs.Owed.{SpellsCut}
 use Rattle.slab_front.specs.Endings.{IsReadCut, HasGoodHead}
 

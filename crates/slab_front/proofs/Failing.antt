@@ -3,7 +3,7 @@ use Rattle.std.proofs.Common.{◌≡◌, ℕ, ◌≤◌, Bool, true, false, List
 use Rattle.std.specs.Result.{IsErr, IsErrAnd}
 use Rattle.slab_counter.specs.Counter.{Rose}
 use Rattle.slab_desk.specs.Desk.{Told, Files, Steps, Stays, Reads}
-use Rattle.cert_check.specs.Cuts.{CutReading}
+use Rattle.cert_keep.specs.Cuts.{CutReading}
 use Rattle.slab_front.specs.declared.ending.Stop.{Stop}
 use Rattle.slab_front.specs.declared.ending.Stop.TheVariants.{Refused, Fault, Memory}
 use Rattle.slab_front.specs.Owed.{Nothing}

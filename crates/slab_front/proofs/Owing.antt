@@ -11,7 +11,7 @@ use Rattle.mill_model.specs.Judging.{first_broken, breaks, rules_of}
 use Rattle.mill_model.specs.Fronts.{Point}
 use Rattle.slab_relax.specs.declared.tally.Tally.{Tally}
 use Rattle.cert_check.specs.declared.line_why.LineWhy.{LineWhy}
-use Rattle.cert_check.specs.declared.verdict.CutRead.TheVariants as cuts
+use Rattle.cert_keep.specs.declared.kept.CutRead.TheVariants as cuts
 use Rattle.cert_check.specs.Whys.{why_of}
 use Rattle.mill_read.specs.declared.fault.TextFault.{TextFault}
 use Rattle.mill_read.specs.OrderFile.{order_file}

@@ -6,7 +6,7 @@ use Rattle.slab_desk.proofs.Steps.{steps_join, steps_weaker}
 use Rattle.slab_desk.proofs.Pieces.{opened, read_more}
 use Rattle.cert_rules.specs.States.Wanted.{Cuts}
 use Rattle.cert_check.specs.Readings.{HasBadLine, room}
-use Rattle.cert_check.specs.Cuts.{CutReading, StandsAsCut, CutHasLessRoom}
+use Rattle.cert_keep.specs.Cuts.{CutReading, StandsAsCut, CutHasLessRoom}
 use Rattle.slab_front.specs.Endings.{OnCutFile}
 
 -- what was read of a file, and fed to a reader

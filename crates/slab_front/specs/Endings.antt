@@ -11,8 +11,8 @@ use Rattle.mill_read.specs.declared.fault.TextError.TheVariants.{Text as TextOf}
 use Rattle.mill_model.specs.Fronts.{IsGoodHead}
 use Rattle.cert_rules.specs.States.Wanted.{Cuts}
 use Rattle.cert_rules.specs.Reading.{IsFirstBad}
-use Rattle.cert_check.specs.declared.verdict.CutRead.{CutRead}
-use Rattle.cert_check.specs.declared.verdict.CutRead.TheVariants as cuts
+use Rattle.cert_keep.specs.declared.kept.CutRead.{CutRead}
+use Rattle.cert_keep.specs.declared.kept.CutRead.TheVariants as cuts
 use Rattle.cert_check.specs.Whys.{why_of}
 use Rattle.run_words.specs.Words.{Parsed}
 use Rattle.run_words.specs.Files.{most_bytes}

@@ -6,7 +6,7 @@ ghost use Rattle.slab_front.specs.Owed.{Nothing};
 ghost use Rattle.slab_front.specs.Endings.{HasOnlyRead, HasGoodHead, IsReadCut, IsStop, OnCutFile, is_fault};
 
 use crate::ending::Stop;
-use cert_check::{CutRead, CutReader};
+use cert_keep::{CutRead, CutReader};
 use mill_model::Mill;
 use slab_desk::Desk;
 use std::alloc::Global;

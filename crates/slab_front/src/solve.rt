@@ -18,7 +18,7 @@ use crate::names::{MillNames, SearchNames};
 use crate::search::{Search, no_points, search_front};
 use crate::texts::bad_line_text;
 use crate::words::DEFAULT_NODES;
-use cert_check::CutRead;
+use cert_keep::CutRead;
 use mill_model::{Head, Mill};
 use slab_desk::Desk;
 use slab_lns::Lns;

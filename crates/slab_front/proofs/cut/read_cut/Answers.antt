@@ -3,7 +3,7 @@ use Rattle.std.proofs.lemmas.Grind.{common_steps}
 use Rattle.mill_model.specs.Mill.{Mill}
 use Rattle.cert_rules.specs.States.Wanted.{Cuts}
 use Rattle.cert_check.specs.Readings.{HasBadLine}
-use Rattle.cert_check.specs.Verdicts.{IsCutRead}
+use Rattle.cert_keep.specs.Reads.{IsCutRead}
 use Rattle.slab_front.specs.Endings.{IsReadCut}
 use Rattle.slab_front.proofs.Pieces.{fed_nothing, fed_more, is_bad, room_falls, there_bad, there_whole}
 use Rattle.slab_front.proofs.Cuts.{was_read, good_head, bad_stays}

@@ -1,7 +1,7 @@
 use Rattle.std.proofs.Common.{List, [], ◌∷◌, ◌++◌, ℕ, refl, ap, subst}
 use Rattle.std.specs.String.{string_bytes}
-use Rattle.cert_check.specs.declared.verdict.CutRead.{CutRead}
-use Rattle.cert_check.specs.declared.verdict.CutRead.TheVariants as cuts
+use Rattle.cert_keep.specs.declared.kept.CutRead.{CutRead}
+use Rattle.cert_keep.specs.declared.kept.CutRead.TheVariants as cuts
 use Rattle.slab_desk.specs.Desk.{WhereTold}
 use Rattle.slab_relax.specs.declared.tally.Tally.{Tally}
 use Rattle.run_words.specs.Words.{MillWords}
