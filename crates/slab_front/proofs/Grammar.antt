@@ -1,16 +1,15 @@
 -- The words of the commands: what is read is in the grammar, and a refusal is one of the first word that can't stand.
-use Rattle.std.proofs.Common.{◌≡◌, ℕ, ◌+◌, ◌^◌, ◌<◌, ◌≤◌, Bool, true, false, List, [], ◌∷◌, ◌++◌, length, Option, Some, None, Ok, Err, decimal, codes, refl, sym, ap, ◌∙◌, subst, arith}
-use Rattle.std.specs.Prelude.{◌↔◌}
+use Rattle.std.proofs.Common.{◌≡◌, ℕ, ◌+◌, Bool, true, false, List, [], ◌∷◌, Some, Ok, Err, decimal, refl, sym, ap, ◌∙◌, arith}
 use Rattle.mill_model.specs.Mill.{most_orders, most_colour_limit}
-use Rattle.run_words.specs.Words.{Parsed, ◌>>=◌, word_at, file_named, number_named}
+use Rattle.run_words.specs.Words.{Parsed, ◌>>=◌, file_named, number_named}
 use Rattle.run_words.specs.Grammar.{OptionRule, options_by, FileThen, NumberThen, OptionsFor, EndsWith, CommandRule, command_by, ReadsCommands}
 use Rattle.run_words.proofs.Commands.{Fine, then_word, fine_same, fine_last}
 use Rattle.run_words.proofs.OptionRules.{Stands, AllStand, then_options, fine_options}
 use Rattle.run_words.proofs.WordRules.{file_says, file_reads, some_file, some_file_is, number_says, number_reads, some_number_is}
 use Rattle.run_words.proofs.CommandRules.{AllAsk, AllFine, commands_read, commands_tell}
 use Rattle.run_words.proofs.Forms.{word_same, reads_same, file_reads_so, fine_file, number_reads_so, fine_number, options_read_so, end_reads_so}
-use Rattle.slab_front.specs.Words.{Command, Solves, Resumes, Judges, Makes, Options, no_options, most_limit, most_rounds, most_seed, with_option, options_from, mill_words, search_words, end_at, solve_of, resume_of, judge_of, make_of, job_of}
-use Rattle.slab_front.specs.Grammar.{yard_rule, colours_rule, nodes_rule, rounds_rule, seed_rule, mill_options, search_options, AsksSolve, AsksResume, AsksJudge, AsksMake, solve_rule, resume_rule, judge_rule, make_rule, IsCommand, CommandsAreRead, FirstWrongIsTold}
+use Rattle.slab_front.specs.Words.{Command, Solves, Resumes, Judges, Makes, Options, no_options, most_limit, most_rounds, most_seed, with_option, options_from, mill_words, search_words, end_at, resume_of, make_of, job_of}
+use Rattle.slab_front.specs.Grammar.{yard_rule, colours_rule, nodes_rule, rounds_rule, seed_rule, mill_options, search_options, AsksResume, AsksMake, solve_rule, resume_rule, judge_rule, make_rule, IsCommand, CommandsAreRead, FirstWrongIsTold}
 
 -- ---- options by their rules
 

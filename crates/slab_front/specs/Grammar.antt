@@ -1,5 +1,5 @@
 -- What the words of each command may be, apart from how they are read, and which is the first that can't stand.
-use Rattle.std.specs.Prelude.{ℕ, Bool, true, false, is_none, List, [], ◌∷◌, Some, codes}
+use Rattle.std.specs.Prelude.{ℕ, is_none, List, [], ◌∷◌, Some, codes}
 use Rattle.mill_model.specs.Mill.{most_orders, most_colour_limit}
 use Rattle.run_words.specs.Words.{file_named, number_named}
 use Rattle.run_words.specs.Grammar.{IsFileWord, IsNumberWord, OptionRule, FileThen, NumberThen, OptionsFor, EndsWith, CommandRule, IsSomeCommand, ReadsCommands, TellsFirstWrong}
