@@ -1,11 +1,11 @@
 -- A reading of a cut that stopped early.
-use Rattle.std.proofs.Common.{◌≡◌, ℕ, ◌≤◌, Bool, true, false, List, Option, Some, None, Result, Ok, Err, refl, sym, ap, ◌∙◌, subst, arith}
+use Rattle.std.proofs.Common.{◌≡◌, ℕ, ◌≤◌, true, List, Option, Result, Ok, Err, sym, ap, ◌∙◌, subst, arith}
 use Rattle.std.specs.Result.{IsErr, IsErrAnd}
 use Rattle.slab_counter.specs.Counter.{Rose}
-use Rattle.slab_desk.specs.Desk.{Told, Files, Steps, Stays, Reads}
+use Rattle.slab_desk.specs.Desk.{Told, Steps, Stays, Reads}
 use Rattle.cert_keep.specs.Cuts.{CutReading}
 use Rattle.slab_front.specs.declared.ending.Stop.{Stop}
-use Rattle.slab_front.specs.declared.ending.Stop.TheVariants.{Refused, Fault, Memory}
+use Rattle.slab_front.specs.declared.ending.Stop.TheVariants.{Fault, Memory}
 use Rattle.slab_front.specs.Owed.{Nothing}
 use Rattle.slab_front.specs.Endings.{HasOnlyRead, IsStop, is_fault}
 use Rattle.slab_front.proofs.Pieces.{HasFed, fed_and_failed, fed_and_read}

@@ -8,3 +8,4 @@ pub mod Cuts
 pub mod Failing
 pub mod Opening
 pub mod Commands
+pub mod Grammar

@@ -8,3 +8,4 @@ pub mod Owed
 pub mod Endings
 pub mod Laws
 pub mod Opens
+pub mod Grammar

@@ -30,7 +30,8 @@ pub fn judge<D: Desk>(
         (mill_named names.entry)))
         (D.told desk.old) (D.told desk.new) (D.faults desk.old) (D.faults desk.new) result }
     ensures stopped { D.stopped desk.new ≡ is_fault result }
-    ensures named { HasOpened (IsPlanOpened (mill_named names.entry) plan.now (D.told desk.old) result)
+    ensures named { HasOpened
+        (IsPlanOpened (mill_named names.entry) plan.now (D.told desk.old) result)
         (D.named desk.old) (D.named desk.new) }
 {
     let mill = read_mill(alloc, desk, names)?;

@@ -18,6 +18,6 @@ mod solve;
 mod texts;
 mod words;
 
-pub use laws::good_cuts_have_no_bad_line;
+pub use laws::{commands_are_read, first_wrong_is_told, good_cuts_have_no_bad_line};
 pub use program::run;
 pub use words::{Job, UsageAt, read_words};

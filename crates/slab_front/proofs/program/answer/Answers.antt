@@ -4,12 +4,12 @@ use Rattle.slab_desk.proofs.Steps.{steps_weaker}
 use Rattle.slab_relax.specs.declared.tally.Tally.{Tally}
 use Rattle.run_words.specs.Opens.{HasOpened}
 use Rattle.slab_front.specs.Words.{Command}
-use Rattle.slab_front.specs.Words.Command.{Solves, Resumes, Judges}
+use Rattle.slab_front.specs.Words.Command.{Solves, Resumes}
 use Rattle.slab_front.specs.Jobs.{mill_named, search_named}
 use Rattle.slab_front.specs.Owed.{OwesOfCommand, OwesSearch, OwesResumed, LeavesUnread}
 use Rattle.slab_front.specs.Endings.{HasOnlyRead, IsAnswer, IsStop, MayAnswer}
 use Rattle.slab_front.specs.Opens.{IsOpenedFor}
-use Rattle.slab_front.proofs.Commands.{solve_is, resume_is, judge_is, read_for_mill, solve_ends, resume_ends}
+use Rattle.slab_front.proofs.Commands.{solve_is, resume_is, read_for_mill, solve_ends, resume_ends}
 use Rattle.slab_front.proofs.program.answer.Goals as goal
 
 -- ---- solve

@@ -1,4 +1,4 @@
-use Rattle.std.proofs.Common.{refl, subst, [], List, ℕ}
+use Rattle.std.proofs.Common.{refl, subst, [], List}
 use Rattle.mill_model.specs.Fronts.{Point}
 use Rattle.slab_relax.specs.declared.tally.Tally.{Tally}
 use Rattle.run_words.specs.Words.{MillWords}
