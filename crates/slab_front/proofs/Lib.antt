@@ -7,3 +7,4 @@ pub mod Pieces
 pub mod Cuts
 pub mod Failing
 pub mod Opening
+pub mod Commands

@@ -22,12 +22,12 @@ use Rattle.run_words.specs.Files.{most_bytes, with_colours, HasValue, HasYard, H
 use Rattle.run_words.proofs.Files.{is_short}
 use Rattle.slab_front.specs.declared.texts.Source.{Source}
 use Rattle.slab_front.specs.declared.texts.Source.TheVariants.{Orders, Yard as YardSource}
-use Rattle.slab_front.specs.Words.{Command}
+use Rattle.slab_front.specs.Words.{Command, SearchWords}
 use Rattle.slab_front.specs.Words.Command.{Solves, Resumes, Judges, Makes}
 use Rattle.slab_front.specs.Texts.{long_text, fault_text}
 use Rattle.slab_front.specs.Searched.{Searched, IsSearched, status_of}
 use Rattle.slab_front.specs.Outcomes.{Outcome, Owing, saying}
-use Rattle.slab_front.specs.Owed.{Exactly, OwesOfFile, OwesOfYard, OwesOfMill, OwesOfPoints, OwesOfCut, OwesResumed, OwesSearch, stored_as, MayEnd}
+use Rattle.slab_front.specs.Owed.{Exactly, OwesOfFile, OwesOfYard, OwesOfMill, OwesOfPoints, OwesOfCut, OwesResumed, OwesSearch, told_of, stored_as, MayEnd}
 use Rattle.slab_front.specs.Endings.{OnCutFile, IsReadCut}
 
 -- of a file with a value what follows is owed
@@ -62,19 +62,19 @@ owes_cut owes files name m status o (bytes, has, owed) =
     subst (λ (x : Option (List ℕ)). MatchOption x ⊥ (λ b. OwesOfPoints owes m b status o)) (sym has) owed
 
 -- of a file with a good cut the search is owed that goes on from its points
-pub owes_points : (files : Files) (name cert : List ℕ) (limit : ℕ) (was is : Tally) (m : Mill) (points : List Point) (s : Searched)
-    → OnCutFile (IsReadCut m (cuts.Head points)) name files → IsSearched m points limit was is (status_of s) s
-    → OwesResumed files name cert limit was is m (status_of s) (stored_as cert m s)
-owes_points files name cert limit was is m points s (bytes, has, spells) found =
-    owes_cut (λ ps. OwesSearch (stored_as cert) ps limit was is m) files name m (status_of s) (stored_as cert m s)
+pub owes_points : (files : Files) (name : List ℕ) (words : SearchWords) (was is : Tally) (m : Mill) (points : List Point) (s : Searched)
+    → OnCutFile (IsReadCut m (cuts.Head points)) name files → IsSearched (told_of words) m points words.nodes was is (status_of s) s
+    → OwesResumed files name words was is m (status_of s) (stored_as words.cert m s)
+owes_points files name words was is m points s (bytes, has, spells) found =
+    owes_cut (λ ps. OwesSearch words ps was is m) files name m (status_of s) (stored_as words.cert m s)
     (bytes, has, inl (points, spells, (s, found, refl)))
 
 -- of one without, its first bad line
-pub owes_no_cut : (files : Files) (name cert : List ℕ) (limit : ℕ) (was is : Tally) (m : Mill) (number : ℕ) (why : LineWhy) (text : List ℕ)
+pub owes_no_cut : (files : Files) (name : List ℕ) (words : SearchWords) (was is : Tally) (m : Mill) (number : ℕ) (why : LineWhy) (text : List ℕ)
     → OnCutFile (IsReadCut m (cuts.No number why)) name files → text ≡ bad_line_text number (why_of why)
-    → OwesResumed files name cert limit was is m 7 (saying text)
-owes_no_cut files name cert limit was is m number why text (bytes, has, first) said =
-    owes_cut (λ ps. OwesSearch (stored_as cert) ps limit was is m) files name m 7 (saying text)
+    → OwesResumed files name words was is m 7 (saying text)
+owes_no_cut files name words was is m number why text (bytes, has, first) said =
+    owes_cut (λ ps. OwesSearch words ps was is m) files name m 7 (saying text)
     (bytes, has, inr (record { number = number; rule = why_of why; first = first; owed = (refl, ap saying said) }))
 
 -- ---- judging
@@ -97,7 +97,7 @@ not_places mill plan rule count first is =
 -- no run owes the status of a fault or of want of memory
 pub never_stops : (parsed : Parsed Command) (status : ℕ) → MayEnd parsed status → (status ≢ 5) × (status ≢ 6)
 never_stops (Err number) status is = (λ e. omega (arith, is, e), λ e. omega (arith, is, e))
-never_stops (Ok (Solves words cert limit)) status is = (λ e. omega (arith, is, e), λ e. omega (arith, is, e))
-never_stops (Ok (Resumes words cut cert limit)) status is = (λ e. omega (arith, is, e), λ e. omega (arith, is, e))
+never_stops (Ok (Solves words searching)) status is = (λ e. omega (arith, is, e), λ e. omega (arith, is, e))
+never_stops (Ok (Resumes words cut searching)) status is = (λ e. omega (arith, is, e), λ e. omega (arith, is, e))
 never_stops (Ok (Judges words plan)) status is = (λ e. omega (arith, is, e), λ e. omega (arith, is, e))
 never_stops (Ok (Makes orders seed)) status is = (λ e. omega (arith, is, e), λ e. omega (arith, is, e))

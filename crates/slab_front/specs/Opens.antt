@@ -1,78 +1,55 @@
 -- Which files a run asks its desk to open and to create, and when.
-use Rattle.std.specs.Prelude.{◌≡◌, ◌⊎◌, ℕ, List, [], ◌∷◌, ◌++◌, Option, Some, None, Result, Ok, Err}
-use Rattle.slab_desk.specs.Desk.{Told, Files, WhereTold}
+use Rattle.std.specs.Prelude.{◌≡◌, ◌≢◌, ◌⊎◌, ℕ, List, [], ◌∷◌, ◌++◌, Option, Result, Ok, Err, OnOk, IfOk}
+use Rattle.slab_desk.specs.Desk.{Told}
 use Rattle.slab_desk.specs.Names.{Names, with_created}
 use Rattle.mill_model.specs.Mill.{Mill}
-use Rattle.mill_read.specs.OrderFile.{order_file}
 use Rattle.run_words.specs.Words.{MillWords, Parsed}
-use Rattle.run_words.specs.Files.{HasValue, HasMill}
+use Rattle.run_words.specs.Opens.{mill_files, OpensMill, OpensOneMore}
 use Rattle.slab_front.specs.declared.ending.Answer.{Answer}
 use Rattle.slab_front.specs.declared.ending.Answer.TheVariants.{Text, Stored, SummedUp}
+use Rattle.slab_front.specs.declared.ending.Ending.{Ending}
 use Rattle.slab_front.specs.declared.ending.Stop.{Stop}
 use Rattle.slab_front.specs.Words.{Command}
 use Rattle.slab_front.specs.Words.Command.{Solves, Resumes, Judges, Makes}
 use Rattle.slab_front.specs.Owed.{IsSearchStatus}
 
--- ---- the files of a run, in the order in which they are read
-
-abbrev pub yard_files : Option (List ℕ) → List (List ℕ)
-yard_files None = []
-yard_files (Some name) = name ∷ []
-
-abbrev pub mill_files : MillWords → List (List ℕ)
-mill_files words = words.orders ∷ yard_files words.yard
-
-abbrev pub files_in : Command → List (List ℕ)
-files_in (Solves words cert limit) = mill_files words
-files_in (Resumes words cut cert limit) = mill_files words ++ cut ∷ []
-files_in (Judges words plan) = mill_files words ++ plan ∷ []
-files_in (Makes orders seed) = []
-
 -- ---- how far a run reads
 
--- the order file is there, and in its grammar
-abbrev pub HasOrders : MillWords → Files → Type 0
-HasOrders words files = (bare : Mill) × HasValue order_file words.orders bare files
-
--- the files of the mill are there, and in their grammar
-abbrev pub HasSomeMill : MillWords → Files → Type 0
-HasSomeMill words files = (m : Mill) × HasMill words m files
-
--- the order file; and after it the yard file, where one is named and the order file could be read
-abbrev pub OpensMill : MillWords → Option Told → List (List ℕ) → Type 0
-OpensMill words told opened =
-    (opened ≡ words.orders ∷ []) ⊎ ((opened ≡ mill_files words) × WhereTold told (λ t. HasOrders words t.files))
-
--- and after those one file more, where the mill could be read
-abbrev pub OpensOneMore : MillWords → List ℕ → Option Told → List (List ℕ) → Type 0
-OpensOneMore words name told opened =
-    OpensMill words told opened ⊎ ((opened ≡ mill_files words ++ name ∷ []) × WhereTold told (λ t. HasSomeMill words t.files))
+-- all files of the words, in the order in which they are read
+abbrev pub files_in : Parsed Command → List (List ℕ)
+files_in (Err number) = []
+files_in (Ok (Solves words searching)) = mill_files words
+files_in (Ok (Resumes words cut searching)) = mill_files words ++ cut ∷ []
+files_in (Ok (Judges words plan)) = mill_files words ++ plan ∷ []
+files_in (Ok (Makes orders seed)) = []
 
 -- just the beginning of the words' files, up to the first that is missing, faulty or refused, each once
 abbrev pub OpensInOrder : Parsed Command → Option Told → List (List ℕ) → Type 0
 OpensInOrder (Err number) told opened = opened ≡ []
-OpensInOrder (Ok (Solves words cert limit)) told opened = OpensMill words told opened
-OpensInOrder (Ok (Resumes words cut cert limit)) told opened = OpensOneMore words cut told opened
+OpensInOrder (Ok (Solves words searching)) told opened = OpensMill words told opened
+OpensInOrder (Ok (Resumes words cut searching)) told opened = OpensOneMore words cut told opened
 OpensInOrder (Ok (Judges words plan)) told opened = OpensOneMore words plan told opened
 OpensInOrder (Ok (Makes orders seed)) told opened = opened ≡ []
 
 -- ---- what a run creates
 
--- the certificate is created, after all files were opened, and the run ends as a search does, or the outside failed
-pub record CreatesAtLast (cert : List ℕ) (files : List (List ℕ)) (status : ℕ) (opened created : List (List ℕ)) : Type 0 where
+-- the certificate is created, and the run ends as a search does, or the outside failed
+pub record IsCreated (cert : List ℕ) (status : ℕ) (created : List (List ℕ)) : Type 0 where
   pub one : created ≡ cert ∷ []
-  pub after : opened ≡ files
   pub ended : IsSearchStatus status ⊎ (status ≡ 5)
 
+-- no file is created, and the run doesn't end as a search does
+pub record IsNotCreated (status : ℕ) (created : List (List ℕ)) : Type 0 where
+  pub none : created ≡ []
+  pub unsearched : IsSearchStatus status → ⊥
+
 -- no file, or just the certificate of a search, and that only when its outcome is decided
-abbrev pub MayCreate : Parsed Command → ℕ → List (List ℕ) → List (List ℕ) → Type 0
-MayCreate (Err number) status opened created = created ≡ []
-MayCreate (Ok (Solves words cert limit)) status opened created =
-    (created ≡ []) ⊎ CreatesAtLast cert (mill_files words) status opened created
-MayCreate (Ok (Resumes words cut cert limit)) status opened created =
-    (created ≡ []) ⊎ CreatesAtLast cert (mill_files words ++ cut ∷ []) status opened created
-MayCreate (Ok (Judges words plan)) status opened created = created ≡ []
-MayCreate (Ok (Makes orders seed)) status opened created = created ≡ []
+abbrev pub Creates : Parsed Command → ℕ → List (List ℕ) → Type 0
+Creates (Err number) status created = created ≡ []
+Creates (Ok (Solves words searching)) status created = IsNotCreated status created ⊎ IsCreated searching.cert status created
+Creates (Ok (Resumes words cut searching)) status created = IsNotCreated status created ⊎ IsCreated searching.cert status created
+Creates (Ok (Judges words plan)) status created = created ≡ []
+Creates (Ok (Makes orders seed)) status created = created ≡ []
 
 -- ---- a run
 
@@ -80,44 +57,49 @@ MayCreate (Ok (Makes orders seed)) status opened created = created ≡ []
 abbrev pub with_names : List (List ℕ) → List (List ℕ) → Names → Names
 with_names opened created names = record { opened = names.opened ++ opened; created = names.created ++ created }
 
--- what a run that ended with this status asked of a desk that told this as it began
+-- What a run that ended with this status asked of a desk that told this as it began. It opened all its files where it ends with an
+-- answer, and where it created one.
 pub record AsksInOrder (parsed : Parsed Command) (told : Option Told) (status : ℕ) (old new : Names) : Type 0 where
   pub opened : List (List ℕ)
   pub created : List (List ℕ)
   pub asked : new ≡ with_names opened created old
   pub order : OpensInOrder parsed told opened
-  pub last : MayCreate parsed status opened created
+  pub all : status ≢ 2 → status ≢ 5 → status ≢ 6 → opened ≡ files_in parsed
+  pub creates : Creates parsed status created
+  pub last : (created ≡ []) ⊎ (opened ≡ files_in parsed)
 
 -- ---- its parts
-
--- names of which this holds were opened, and none was created
-pub record HasOpened (P : List (List ℕ) → Type 0) (old new : Names) : Type 0 where
-  pub opened : List (List ℕ)
-  pub asked : new ≡ record old { opened = old.opened ++ opened }
-  pub holds : P opened
 
 -- a mill was read from all its files, or reading stopped
 abbrev pub IsMillOpened : MillWords → Option Told → Result Mill Stop → List (List ℕ) → Type 0
 IsMillOpened words told (Ok mill) opened = opened ≡ mill_files words
 IsMillOpened words told (Err stop) opened = OpensMill words told opened
 
--- where a certificate is to be stored, it is the one of the words, and all files were opened
-abbrev pub IsStoredLast : Command → List ℕ → List (List ℕ) → Type 0
-IsStoredLast (Solves words cert limit) name opened = (name ≡ cert) × (opened ≡ mill_files words)
-IsStoredLast (Resumes words cut cert limit) name opened = (name ≡ cert) × (opened ≡ mill_files words ++ cut ∷ [])
-IsStoredLast (Judges words plan) name opened = ⊥
-IsStoredLast (Makes orders seed) name opened = ⊥
+-- a plan was read after all files of the mill, or reading stopped
+pub record IsPlanOpened (words : MillWords) (plan : List ℕ) (told : Option Told) (result : Result Ending Stop) (opened : List (List ℕ)) : Type 0 where
+  pub order : OpensOneMore words plan told opened
+  pub all : OnOk result (opened ≡ mill_files words ++ plan ∷ [])
 
-abbrev pub MayStore : Command → Result Answer Stop → List (List ℕ) → Type 0
-MayStore command (Ok (Text ending)) opened = Unit {0}
-MayStore command (Ok (Stored name m s)) opened = IsStoredLast command name.now opened
-MayStore command (Ok (SummedUp m s)) opened = Unit {0}
-MayStore command (Err stop) opened = Unit {0}
+-- a search stores its certificate under the name of the words, and only a search does; only a made mill is summed up
+abbrev pub Answers : Command → Answer → Type 0
+Answers (Solves words searching) (Text ending) = IsSearchStatus ending.status → ⊥
+Answers (Solves words searching) (Stored name m s) = name.now ≡ searching.cert
+Answers (Solves words searching) (SummedUp m s) = ⊥
+Answers (Resumes words cut searching) (Text ending) = IsSearchStatus ending.status → ⊥
+Answers (Resumes words cut searching) (Stored name m s) = name.now ≡ searching.cert
+Answers (Resumes words cut searching) (SummedUp m s) = ⊥
+Answers (Judges words plan) (Text ending) = Unit {0}
+Answers (Judges words plan) (Stored name m s) = ⊥
+Answers (Judges words plan) (SummedUp m s) = ⊥
+Answers (Makes orders seed) (Text ending) = ⊥
+Answers (Makes orders seed) (Stored name m s) = ⊥
+Answers (Makes orders seed) (SummedUp m s) = Unit {0}
 
 -- what the answer to a command opened
 pub record IsOpenedFor (command : Command) (told : Option Told) (result : Result Answer Stop) (opened : List (List ℕ)) : Type 0 where
   pub order : OpensInOrder (Ok command) told opened
-  pub store : MayStore command result opened
+  pub all : OnOk result (opened ≡ files_in (Ok command))
+  pub answers : IfOk result (Answers command)
 
 -- the names after an answer was given
 abbrev pub names_for : Answer → Names → Names

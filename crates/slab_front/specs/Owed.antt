@@ -13,7 +13,10 @@ use Rattle.mill_read.specs.OrderFile.{order_file}
 use Rattle.mill_read.specs.YardFile.{yard_file}
 use Rattle.mill_read.specs.PlanFile.{plan_file}
 use Rattle.slab_relax.specs.declared.tally.Tally.{Tally}
+use Rattle.slab_start.specs.FirstFit.{first_fit}
 use Rattle.slab_start.specs.Made.{made_mill}
+use Rattle.slab_sweep.specs.Openings.{Telling}
+use Rattle.slab_lns.specs.Rounds.{told_after_rounds}
 use Rattle.cert_rules.specs.declared.why.Why.{Why}
 use Rattle.cert_rules.specs.States.Wanted.{Cuts}
 use Rattle.cert_rules.specs.Reading.{IsFirstBad}
@@ -25,7 +28,7 @@ use Rattle.run_words.specs.Texts.{usage_text, bad_line_text}
 use Rattle.run_words.specs.Files.{most_bytes, with_colours}
 use Rattle.slab_front.specs.declared.texts.Source.{Source}
 use Rattle.slab_front.specs.declared.texts.Source.TheVariants.{Orders, Yard as YardSource, Plan as PlanSource}
-use Rattle.slab_front.specs.Words.{Command, job_of, default_nodes}
+use Rattle.slab_front.specs.Words.{Command, SearchWords, job_of, default_nodes}
 use Rattle.slab_front.specs.Words.Command.{Solves, Resumes, Judges, Makes}
 use Rattle.slab_front.specs.Texts.{fault_text, long_text, legal_text, SaysBroken}
 use Rattle.slab_front.specs.Searched.{Searched, IsSearched, FindsFront, certificate_of, word_of}
@@ -70,15 +73,20 @@ stored_as name m s = record {
 abbrev pub summed_up : Mill → Searched → Outcome
 summed_up m s = saying (summary_text m s.points s.opened s.bare (word_of s))
 
--- what a search that goes on from these points found, shown so
-abbrev pub OwesSearch : (Mill → Searched → Outcome) → List Point → ℕ → Tally → Tally → Mill → Owing
-OwesSearch shown before limit was is m status outcome =
-    (s : Searched) × IsSearched m before limit was is status s × (outcome ≡ shown m s)
+-- what the starter of a search tells: the first-fit plan after the rounds that the words name
+abbrev pub told_of : SearchWords → Telling
+told_of words = told_after_rounds words.rounds words.seed (Some first_fit)
+
+-- what a search that goes on from these points found, stored and said
+abbrev pub OwesSearch : SearchWords → List Point → Tally → Tally → Mill → Owing
+OwesSearch words before was is m status outcome =
+    (s : Searched) × IsSearched (told_of words) m before words.nodes was is status s × (outcome ≡ stored_as words.cert m s)
 
 -- the front of a made mill, which is always found
 abbrev pub OwesMade : ℕ → ℕ → Tally → Tally → Owing
 OwesMade orders seed was is status outcome =
-    (status ≡ 0) × ((s : Searched) × FindsFront (made_mill orders seed) [] default_nodes was is s × (outcome ≡ summed_up (made_mill orders seed) s))
+    (status ≡ 0)
+    × ((s : Searched) × FindsFront (Some first_fit) (made_mill orders seed) [] default_nodes was is s × (outcome ≡ summed_up (made_mill orders seed) s))
 
 -- ---- cuts
 
@@ -105,8 +113,8 @@ abbrev pub OwesOfCut : (List Point → Owing) → Files → List ℕ → Mill �
 OwesOfCut owes files name m status outcome = MatchOption (get files name) ⊥ (λ bytes. OwesOfPoints owes m bytes status outcome)
 
 -- a search that goes on from the points of a cut
-abbrev pub OwesResumed : Files → List ℕ → List ℕ → ℕ → Tally → Tally → Mill → Owing
-OwesResumed files cut cert limit was is m = OwesOfCut (λ points. OwesSearch (stored_as cert) points limit was is m) files cut m
+abbrev pub OwesResumed : Files → List ℕ → SearchWords → Tally → Tally → Mill → Owing
+OwesResumed files cut words was is m = OwesOfCut (λ points. OwesSearch words points was is m) files cut m
 
 -- ---- plans
 
@@ -123,8 +131,8 @@ OwesOfPlan files name m = OwesOfFile PlanSource (plan_file (length m.orders)) (O
 
 -- the counters of what a turn can fail by stand at was before the run, and at is after it
 abbrev pub OwesOfCommand : Command → Tally → Tally → Files → Owing
-OwesOfCommand (Solves words cert limit) was is files = OwesOfMill (OwesSearch (stored_as cert) [] limit was is) files words
-OwesOfCommand (Resumes words cut cert limit) was is files = OwesOfMill (OwesResumed files cut cert limit was is) files words
+OwesOfCommand (Solves words searching) was is files = OwesOfMill (OwesSearch searching [] was is) files words
+OwesOfCommand (Resumes words cut searching) was is files = OwesOfMill (OwesResumed files cut searching was is) files words
 OwesOfCommand (Judges words plan) was is files = OwesOfMill (OwesOfPlan files plan) files words
 OwesOfCommand (Makes orders seed) was is files = OwesMade orders seed was is
 
@@ -145,15 +153,15 @@ IsSearchStatus status = (status ≡ 0) ⊎ ((status ≡ 3) ⊎ (status ≡ 4))
 -- the statuses that these words may end with, beside those of a fault and of want of memory
 abbrev pub MayEnd : Parsed Command → ℕ → Type 0
 MayEnd (Err number) status = status ≡ 1
-MayEnd (Ok (Solves words cert limit)) status = (status ≡ 2) ⊎ IsSearchStatus status
-MayEnd (Ok (Resumes words cut cert limit)) status = (status ≡ 2) ⊎ ((status ≡ 7) ⊎ IsSearchStatus status)
+MayEnd (Ok (Solves words searching)) status = (status ≡ 2) ⊎ IsSearchStatus status
+MayEnd (Ok (Resumes words cut searching)) status = (status ≡ 2) ⊎ ((status ≡ 7) ⊎ IsSearchStatus status)
 MayEnd (Ok (Judges words plan)) status = (status ≡ 0) ⊎ ((status ≡ 2) ⊎ (status ≡ 8))
 MayEnd (Ok (Makes orders seed)) status = status ≡ 0
 
 -- words that can't stand, and those that make a mill, open no file
 abbrev pub LeavesUnread : Parsed Command → Told → Told → Type 0
 LeavesUnread (Err number) old new = new.left ≡ old.left
-LeavesUnread (Ok (Solves words cert limit)) old new = Unit {0}
-LeavesUnread (Ok (Resumes words cut cert limit)) old new = Unit {0}
+LeavesUnread (Ok (Solves words searching)) old new = Unit {0}
+LeavesUnread (Ok (Resumes words cut searching)) old new = Unit {0}
 LeavesUnread (Ok (Judges words plan)) old new = Unit {0}
 LeavesUnread (Ok (Makes orders seed)) old new = new.left ≡ old.left

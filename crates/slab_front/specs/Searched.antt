@@ -12,11 +12,10 @@ use Rattle.mill_model.specs.Fronts.{Point, IsFront, IsPoint, last_sums, sums_lis
 use Rattle.slab_relax.specs.declared.tally.Tally.{Tally}
 use Rattle.slab_relax.specs.Tallies.{HaveCauses}
 use Rattle.slab_tree.specs.Marking.{bare_marks}
-use Rattle.slab_sweep.specs.Openings.{opening_after, limits_of_rest}
+use Rattle.slab_sweep.specs.Openings.{Telling, opening_after, limits_of_rest}
 use Rattle.slab_sweep.specs.Made.{IsMade, IsCut, GoesOnFrom, nodes_of, bares_of}
 use Rattle.slab_sweep.specs.Counting.{questions_left}
 use Rattle.slab_sweep.specs.Swept.{AreWithin, added_to}
-use Rattle.slab_start.specs.FirstFit.{first_fit}
 use Rattle.slab_start.specs.Plain.{IsPlainMill}
 use Rattle.mill_report.specs.declared.word.Word.{Word}
 use Rattle.mill_report.specs.declared.word.Word.TheVariants.{Complete, Budget, NoPlan}
@@ -89,40 +88,38 @@ pub record AreTheFront (m : Mill) (points : List Point) : Type 0 where
   pub front : IsFront m (sums_list points)
   pub plans : AllByRecursion (IsPoint m) (attained points)
 
--- The trees of the points that were added to those before were made by the search: each is lean, and each of its marks shows a
--- cover within the limits with which its question opened, or is bare. A question opens with one less than the loss of the
--- first-fit plan and one less than the count of the point before.
-abbrev pub GoesOn : Mill → List Point → List Point → Type 0
-GoesOn m before points = GoesOnFrom (Some first_fit) m before points
+-- The trees of the points that were added to those before were made by the search (`GoesOnFrom`): each is lean, and each of its
+-- marks shows a cover within the limits with which its question opened, or is bare. A question opens with one less than the loss of
+-- the starter's plan, as it is told, and one less than the count of the point before.
 
 -- and so was the last tree
-abbrev pub IsLastTree : Mill → List Point → MarkedSteps → Type 0
-IsLastTree m points last = IsMade m (opening_after (Some first_fit) m (last_sums None points)) (limits_of_rest (last_sums None points)) last
+abbrev pub IsLastTree : Telling → Mill → List Point → MarkedSteps → Type 0
+IsLastTree told m points last = IsMade m (opening_after told m (last_sums None points)) (limits_of_rest (last_sums None points)) last
 
 -- The next split of the last question's tree would give it more nodes than the limit: the tree as far as it came, with so many
 -- nodes as the limit or one less. So many of its splits are bare; each other one has a cover within the opening limits, and so
 -- has the end that was to be split, unless a counter rose.
-abbrev pub IsLastCut : Mill → List Point → ℕ → ℕ → Tally → Tally → List (Option Ask) → Type 0
-IsLastCut m points limit bares was is rest = IsCut m (opening_after (Some first_fit) m (last_sums None points)) limit bares was is rest
+abbrev pub IsLastCut : Telling → Mill → List Point → ℕ → ℕ → Tally → Tally → List (Option Ask) → Type 0
+IsLastCut told m points limit bares was is rest = IsCut m (opening_after told m (last_sums None points)) limit bares was is rest
 
 -- what a check says of the certificate's text: bytes have one verdict
 abbrev pub IsCheckedAs : Mill → Searched → Verdict → Type 0
 IsCheckedAs m s verdict = IsVerdict m (certificate_text (certificate_of s)) verdict
 
 -- the whole front, with a good whole certificate
-pub record FindsFront (m : Mill) (before : List Point) (limit : ℕ) (was is : Tally) (s : Searched) : Type 0 where
+pub record FindsFront (told : Telling) (m : Mill) (before : List Point) (limit : ℕ) (was is : Tally) (s : Searched) : Type 0 where
   pub plan : HasPlan m
   pub points : AreTheFront m s.points
   pub shows : ShowsFront m (certificate_of s)
   pub checked : IsCheckedAs m s (Front (sums_list s.points))
-  pub goes_on : GoesOn m before s.points
+  pub goes_on : GoesOnFrom told m before s.points
   pub last : MarkedSteps
   pub ending : s.ending ≡ Whole last
-  pub made : IsLastTree m s.points last
+  pub made : IsLastTree told m s.points last
   pub counts : IsCounted m before limit (bare_marks last.marks) was is s
 
 -- no plan is legal, with a good whole certificate that has no point. That never comes for a plain mill
-pub record FindsNoPlan (m : Mill) (before : List Point) (limit : ℕ) (was is : Tally) (s : Searched) : Type 0 where
+pub record FindsNoPlan (told : Telling) (m : Mill) (before : List Point) (limit : ℕ) (was is : Tally) (s : Searched) : Type 0 where
   pub none : HasPlan m → ⊥
   pub unplain : IsPlainMill m → ⊥
   pub points : s.points ≡ []
@@ -130,27 +127,27 @@ pub record FindsNoPlan (m : Mill) (before : List Point) (limit : ℕ) (was is : 
   pub checked : IsCheckedAs m s WithoutPlan
   pub last : MarkedSteps
   pub ending : s.ending ≡ Whole last
-  pub made : IsLastTree m [] last
+  pub made : IsLastTree told m [] last
   pub counts : IsCounted m before limit (bare_marks last.marks) was is s
 
 -- The node limit cut the search off: a good cut. Its points but the last are on the front, and the last has the least loss of the
 -- plans with fewer new slabs than the point before. That never comes with a limit of at least the node bound, nor from the start
 -- for a plain mill
-pub record IsCutShort (m : Mill) (before : List Point) (limit : ℕ) (was is : Tally) (s : Searched) : Type 0 where
+pub record IsCutShort (told : Telling) (m : Mill) (before : List Point) (limit : ℕ) (was is : Tally) (s : Searched) : Type 0 where
   pub leads : LeadToTheFront m None (sums_list s.points)
   pub shows : ShowsCut m (certificate_of s)
   pub checked : IsCheckedAs m s (CutOff (sums_list s.points))
-  pub goes_on : GoesOn m before s.points
+  pub goes_on : GoesOnFrom told m before s.points
   pub rest : List (Option Ask)
   pub ending : s.ending ≡ Cut rest
   pub bares : ℕ
-  pub cut : IsLastCut m s.points limit bares was is rest
+  pub cut : IsLastCut told m s.points limit bares was is rest
   pub below : limit < node_bound m
   pub unplain : before ≡ [] → IsPlainMill m → ⊥
   pub counts : IsCounted m before limit bares was is s
 
 -- the statuses of a search: 0 where it found the front, 3 where it was cut off, 4 where there is no plan
-abbrev pub IsSearched : Mill → List Point → ℕ → Tally → Tally → ℕ → Searched → Type 0
-IsSearched m before limit was is status s =
-    ((status ≡ 0) × FindsFront m before limit was is s)
-    ⊎ ((status ≡ 3) × IsCutShort m before limit was is s) ⊎ ((status ≡ 4) × FindsNoPlan m before limit was is s)
+abbrev pub IsSearched : Telling → Mill → List Point → ℕ → Tally → Tally → ℕ → Searched → Type 0
+IsSearched told m before limit was is status s =
+    ((status ≡ 0) × FindsFront told m before limit was is s)
+    ⊎ ((status ≡ 3) × IsCutShort told m before limit was is s) ⊎ ((status ≡ 4) × FindsNoPlan told m before limit was is s)

@@ -7,11 +7,18 @@ use Rattle.run_words.specs.Words.{MillWords, default_colours, Parsed, ◌>>=◌,
 
 -- ---- what is asked of the program
 
+-- the file of the certificate, the most nodes of one question's tree, and the rounds after a first-fit plan with their seed
+pub record SearchWords : Type 0 where
+  pub cert : List ℕ
+  pub nodes : ℕ
+  pub rounds : ℕ
+  pub seed : ℕ
+
 pub data Command : Type 0 where
-  -- a mill, the file of its certificate, and the most nodes of one question's tree
-  Solves : MillWords → List ℕ → ℕ → Command
-  -- a mill, the file of the cut from which the search goes on, and as in a search
-  Resumes : MillWords → List ℕ → List ℕ → ℕ → Command
+  -- a mill, and how it is searched
+  Solves : MillWords → SearchWords → Command
+  -- a mill, the file of the cut from which the search goes on, and how it is searched
+  Resumes : MillWords → List ℕ → SearchWords → Command
   -- a mill and a plan file
   Judges : MillWords → List ℕ → Command
   -- so many orders, and the number that makes them
@@ -21,9 +28,18 @@ pub data Command : Type 0 where
 abbrev pub default_nodes : ℕ
 default_nodes = 1000000
 
+abbrev pub default_rounds : ℕ
+default_rounds = 0
+
+abbrev pub default_seed : ℕ
+default_seed = 0
+
 -- the most that the words may name
 abbrev pub most_limit : ℕ
 most_limit = 1000000000000000
+
+abbrev pub most_rounds : ℕ
+most_rounds = 10000
 
 abbrev pub most_seed : ℕ
 most_seed = 2 ^ 32 - 1
@@ -41,21 +57,32 @@ pub record Options : Type 0 where
   pub yard : Option (List ℕ)
   pub nodes : Option ℕ
   pub colours : Option ℕ
+  pub rounds : Option ℕ
+  pub seed : Option ℕ
 
 abbrev pub no_options : Options
-no_options = record { yard = None; nodes = None; colours = None }
+no_options = record { yard = None; nodes = None; colours = None; rounds = None; seed = None }
 
--- The options with one more: the word that names it, which has this number, and the word after that, where there is one.
--- Only a search has a node limit.
+-- The options with one more that only a search has: the word that names it, which has this number, and the word after that,
+-- where there is one.
+abbrev pub with_search_option : ℕ → Options → List ℕ → Option (List ℕ) → Parsed Options
+with_search_option number options name value =
+    if bytes_eq name (codes "--nodes") && is_none options.nodes
+    then (given_at (number_named 1 most_limit) (number + 1) value >>= λ nodes. Ok (record options { nodes = Some nodes }))
+    else (if bytes_eq name (codes "--rounds") && is_none options.rounds
+    then (given_at (number_named 0 most_rounds) (number + 1) value >>= λ rounds. Ok (record options { rounds = Some rounds }))
+    else (if bytes_eq name (codes "--seed") && is_none options.seed
+    then (given_at (number_named 0 most_seed) (number + 1) value >>= λ seed. Ok (record options { seed = Some seed }))
+    else Err number))
+
+-- the options with one more, of a search or not
 abbrev pub with_option : Bool → ℕ → Options → List ℕ → Option (List ℕ) → Parsed Options
 with_option searches number options name value =
     if bytes_eq name (codes "--yard") && is_none options.yard
     then (given_at file_named (number + 1) value >>= λ file. Ok (record options { yard = Some file }))
-    else (if bytes_eq name (codes "--nodes") && (searches && is_none options.nodes)
-    then (given_at (number_named 1 most_limit) (number + 1) value >>= λ nodes. Ok (record options { nodes = Some nodes }))
     else (if bytes_eq name (codes "--colours") && is_none options.colours
     then (given_at (number_named 1 most_colour_limit) (number + 1) value >>= λ colours. Ok (record options { colours = Some colours }))
-    else Err number))
+    else (if searches then with_search_option number options name value else Err number))
 
 -- all words that are left, of which the first has this number, are options
 abbrev pub options_from : Bool → ℕ → Options → List (List ℕ) → Parsed Options
@@ -69,12 +96,20 @@ options_from searches number options (name ∷ value ∷ words) =
 abbrev pub mill_words : List ℕ → Options → MillWords
 mill_words orders options = record { orders = orders; yard = options.yard; colours = unwrap_or options.colours default_colours }
 
+abbrev pub search_words : List ℕ → Options → SearchWords
+search_words cert options = record {
+  cert = cert;
+  nodes = unwrap_or options.nodes default_nodes;
+  rounds = unwrap_or options.rounds default_rounds;
+  seed = unwrap_or options.seed default_seed;
+}
+
 abbrev pub solve_of : List (List ℕ) → Parsed Command
 solve_of words = do
   orders ← word_at file_named 2 words
   cert ← word_at file_named 3 orders.1
   options ← options_from true 4 no_options cert.1
-  Ok (Solves (mill_words orders.0 options) cert.0 (unwrap_or options.nodes default_nodes))
+  Ok (Solves (mill_words orders.0 options) (search_words cert.0 options))
 
 abbrev pub resume_of : List (List ℕ) → Parsed Command
 resume_of words = do
@@ -82,7 +117,7 @@ resume_of words = do
   cut ← word_at file_named 3 orders.1
   cert ← word_at file_named 4 cut.1
   options ← options_from true 5 no_options cert.1
-  Ok (Resumes (mill_words orders.0 options) cut.0 cert.0 (unwrap_or options.nodes default_nodes))
+  Ok (Resumes (mill_words orders.0 options) cut.0 (search_words cert.0 options))
 
 abbrev pub judge_of : List (List ℕ) → Parsed Command
 judge_of words = do

@@ -22,7 +22,8 @@ pub fn read_cut<D: Desk>(
     mill: &Mill,
     name: &str,
 ) -> Result<CutRead, Stop>
-    ensures read { IfOk result (λ read. WhereTold (D.told desk.old) (λ t. OnCutFile (IsReadCut mill.now read) name.now t.files)) }
+    ensures read { IfOk result (λ read. WhereTold (D.told desk.old)
+        (λ t. OnCutFile (IsReadCut mill.now read) name.now t.files)) }
     ensures good { IfOk result (HasGoodHead mill.now) }
     ensures reads { HasOnlyRead (IsStop Nothing)
         (D.told desk.old) (D.told desk.new) (D.faults desk.old) (D.faults desk.new) result }

@@ -1,3 +1,4 @@
+// What a run finds before it stores or says anything, and why it may stop.
 ghost use Rattle.std.specs.Prelude.{◌≡◌};
 ghost use Rattle.slab_front.specs.declared.ending.Stop.TheVariants.{Fault, Memory};
 

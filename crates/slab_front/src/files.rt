@@ -2,17 +2,19 @@
 ghost use Rattle.std.specs.Prelude.{◌≡◌, ◌≤◌, length, IfOk};
 ghost use Rattle.slab_desk.specs.Desk.{WhereTold, HasFile, HasLongFile};
 ghost use Rattle.slab_desk.specs.Names.{with_opened};
-ghost use Rattle.mill_model.specs.Mill.{IsBetween, AreBarsAmong, most_colour_limit};
+ghost use Rattle.mill_model.specs.Mill.{AreBarsAmong};
 ghost use Rattle.mill_read.specs.OrderFile.{order_file};
 ghost use Rattle.mill_read.specs.YardFile.{yard_file};
 ghost use Rattle.mill_read.specs.PlanFile.{plan_file};
-ghost use Rattle.run_words.specs.Words.{named_mill};
 ghost use Rattle.run_words.specs.Files.{most_bytes, HasValue, HasMill};
+ghost use Rattle.run_words.specs.Opens.{HasOpened};
 ghost use Rattle.slab_front.specs.Owed.{Nothing, OwesOfFile, OwesOfMill};
 ghost use Rattle.slab_front.specs.Endings.{HasOnlyRead, is_fault, IsStop, IsTooLong, IsRefusal};
-ghost use Rattle.slab_front.specs.Opens.{HasOpened, IsMillOpened};
+ghost use Rattle.slab_front.specs.Jobs.{mill_named};
+ghost use Rattle.slab_front.specs.Opens.{IsMillOpened};
 
 use crate::ending::Stop;
+use crate::names::MillNames;
 use crate::texts::{Source, fault_text, long_text};
 use mill_model::{Mill, Plan, Yard};
 use mill_read::{TextError, read_orders, read_plan, read_yard};
@@ -21,34 +23,32 @@ use std::alloc::Global;
 
 const MOST_BYTES: usize = 1048576;
 
-/// The mill of an order file, with the yard of a yard file where one is named, and a colour limit.
-pub fn read_mill<D: Desk>(
-    alloc: Global,
-    desk: &mut D,
-    orders: &str,
-    yard: Option<&str>,
-    colours: u16,
-) -> Result<Mill, Stop>
-    requires { IsBetween 1 most_colour_limit colours }
-    ensures mill { IfOk result (λ mill. WhereTold (D.told desk.old) (λ t. HasMill (named_mill orders.entry yard.entry colours) mill t.files)) }
-    ensures reads { HasOnlyRead (IsStop (λ files. OwesOfMill Nothing files (named_mill orders.entry yard.entry colours)))
+/// The mill of these names.
+pub fn read_mill<D: Desk>(alloc: Global, desk: &mut D, names: MillNames<'_>) -> Result<Mill, Stop>
+    ensures mill { IfOk result (λ mill. WhereTold (D.told desk.old)
+        (λ t. HasMill (mill_named names.entry) mill t.files)) }
+    ensures reads { HasOnlyRead (IsStop (λ files. OwesOfMill Nothing files
+        (mill_named names.entry)))
         (D.told desk.old) (D.told desk.new) (D.faults desk.old) (D.faults desk.new) result }
     ensures stopped { D.stopped desk.new ≡ is_fault result }
-    ensures named { HasOpened (IsMillOpened (named_mill orders.entry yard.entry colours) (D.told desk.old) result) (D.named desk.old) (D.named desk.new) }
+    ensures named { HasOpened (IsMillOpened (mill_named names.entry) (D.told desk.old) result)
+        (D.named desk.old) (D.named desk.new) }
 {
-    let mut mill = bare_mill(alloc, desk, orders)?;
-    if let Some(name) = yard {
+    let mut mill = bare_mill(alloc, desk, names.orders)?;
+    if let Some(name) = names.yard {
         let yard = yard_in(alloc, desk, &mill, name)?;
         mill.put_yard(yard);
     }
-    mill.set_colour_limit(colours);
+    mill.set_colour_limit(names.colours);
     Ok(mill)
 }
 
 // The mill of an order file.
 fn bare_mill<D: Desk>(alloc: Global, desk: &mut D, name: &str) -> Result<Mill, Stop>
-    ensures mill { IfOk result (λ mill. WhereTold (D.told desk.old) (λ t. HasValue order_file name.now mill t.files)) }
-    ensures reads { HasOnlyRead (IsStop (λ files. OwesOfFile Source.Orders order_file Nothing files name.now))
+    ensures mill { IfOk result (λ mill. WhereTold (D.told desk.old)
+        (λ t. HasValue order_file name.now mill t.files)) }
+    ensures reads { HasOnlyRead (IsStop (λ files. OwesOfFile Source.Orders order_file Nothing files
+        name.now))
         (D.told desk.old) (D.told desk.new) (D.faults desk.old) (D.faults desk.new) result }
     ensures stopped { D.stopped desk.new ≡ is_fault result }
     ensures named { D.named desk.new ≡ with_opened name.now (D.named desk.old) }
@@ -62,9 +62,11 @@ fn bare_mill<D: Desk>(alloc: Global, desk: &mut D, name: &str) -> Result<Mill, S
 
 // The yard of a yard file, for a mill.
 fn yard_in<D: Desk>(alloc: Global, desk: &mut D, mill: &Mill, name: &str) -> Result<Yard, Stop>
-    ensures yard { IfOk result (λ yard. WhereTold (D.told desk.old) (λ t. HasValue (yard_file (length mill.now.orders)) name.now yard t.files)) }
+    ensures yard { IfOk result (λ yard. WhereTold (D.told desk.old)
+        (λ t. HasValue (yard_file (length mill.now.orders)) name.now yard t.files)) }
     ensures bars { IfOk result (λ yard. AreBarsAmong (length mill.now.orders) yard.bars) }
-    ensures reads { HasOnlyRead (IsStop (λ files. OwesOfFile Source.Yard (yard_file (length mill.now.orders)) Nothing files name.now))
+    ensures reads { HasOnlyRead (IsStop (λ files. OwesOfFile Source.Yard
+        (yard_file (length mill.now.orders)) Nothing files name.now))
         (D.told desk.old) (D.told desk.new) (D.faults desk.old) (D.faults desk.new) result }
     ensures stopped { D.stopped desk.new ≡ is_fault result }
     ensures named { D.named desk.new ≡ with_opened name.now (D.named desk.old) }
@@ -78,9 +80,11 @@ fn yard_in<D: Desk>(alloc: Global, desk: &mut D, mill: &Mill, name: &str) -> Res
 
 /// The plan of a plan file, for a mill.
 pub fn plan_in<D: Desk>(alloc: Global, desk: &mut D, mill: &Mill, name: &str) -> Result<Plan, Stop>
-    ensures plan { IfOk result (λ plan. WhereTold (D.told desk.old) (λ t. HasValue (plan_file (length mill.now.orders)) name.now plan t.files)) }
+    ensures plan { IfOk result (λ plan. WhereTold (D.told desk.old)
+        (λ t. HasValue (plan_file (length mill.now.orders)) name.now plan t.files)) }
     ensures places { IfOk result (λ plan. length plan.place ≡ length mill.now.orders) }
-    ensures reads { HasOnlyRead (IsStop (λ files. OwesOfFile Source.Plan (plan_file (length mill.now.orders)) Nothing files name.now))
+    ensures reads { HasOnlyRead (IsStop (λ files. OwesOfFile Source.Plan
+        (plan_file (length mill.now.orders)) Nothing files name.now))
         (D.told desk.old) (D.told desk.new) (D.faults desk.old) (D.faults desk.new) result }
     ensures stopped { D.stopped desk.new ≡ is_fault result }
     ensures named { D.named desk.new ≡ with_opened name.now (D.named desk.old) }

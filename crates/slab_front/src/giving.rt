@@ -22,8 +22,10 @@ use slab_desk::{Desk, Failed, say_all};
 pub fn give<D: Desk>(desk: &mut D, answer: Answer<'_>) -> u8
     requires status { status_for answer ≢ 5 }
     requires calls { IsStoppedBy (Ok answer) (D.stopped desk.old) }
-    ensures finishes { Finishes (status_for answer.entry) (outcome_for answer.entry) (D.told desk.old) (D.told desk.new) result }
-    ensures ends { EndsByFaults (D.faults desk.old) (D.faults desk.new) (D.stopped desk.new) result }
+    ensures finishes { Finishes (status_for answer.entry) (outcome_for answer.entry)
+        (D.told desk.old) (D.told desk.new) result }
+    ensures ends { EndsByFaults (D.faults desk.old) (D.faults desk.new)
+        (D.stopped desk.new) result }
     ensures named { D.named desk.new ≡ names_for answer.entry (D.named desk.old) }
 {
     match answer {
@@ -38,8 +40,10 @@ pub fn give<D: Desk>(desk: &mut D, answer: Answer<'_>) -> u8
 pub fn say<D: Desk>(desk: &mut D, status: u8, text: &str) -> u8
     requires status { status ≢ 5 }
     requires calls { (D.stopped desk.old ≡ false) ⊎ (0 < length text.now) }
-    ensures finishes { Finishes status (saying text.now) (D.told desk.old) (D.told desk.new) result }
-    ensures ends { EndsByFaults (D.faults desk.old) (D.faults desk.new) (D.stopped desk.new) result }
+    ensures finishes { Finishes status (saying text.now)
+        (D.told desk.old) (D.told desk.new) result }
+    ensures ends { EndsByFaults (D.faults desk.old) (D.faults desk.new)
+        (D.stopped desk.new) result }
     ensures named { D.named desk.new ≡ D.named desk.old }
 {
     match say_all(desk, text.as_bytes()) {
@@ -50,8 +54,10 @@ pub fn say<D: Desk>(desk: &mut D, status: u8, text: &str) -> u8
 
 // Stores the certificate of a search in a new file, and says its report.
 fn store_and_say<D: Desk>(desk: &mut D, name: &str, mill: &Mill, search: &Search) -> u8
-    ensures finishes { Finishes (status_of search.now) (stored_as name.now mill.now search.now) (D.told desk.old) (D.told desk.new) result }
-    ensures ends { EndsByFaults (D.faults desk.old) (D.faults desk.new) (D.stopped desk.new) result }
+    ensures finishes { Finishes (status_of search.now) (stored_as name.now mill.now search.now)
+        (D.told desk.old) (D.told desk.new) result }
+    ensures ends { EndsByFaults (D.faults desk.old) (D.faults desk.new)
+        (D.stopped desk.new) result }
     ensures named { D.named desk.new ≡ with_created name.now (D.named desk.old) }
 {
     if store(desk, name, mill, search).is_err() {
@@ -71,8 +77,11 @@ fn store_and_say<D: Desk>(desk: &mut D, name: &str, mill: &Mill, search: &Search
 
 // Stores the certificate of a search in a new file.
 fn store<D: Desk>(desk: &mut D, name: &str, mill: &Mill, search: &Search) -> Result<(), Failed>
-    ensures stores { OnOk result (Steps (D.told desk.old) (D.told desk.new) (Gives (storing name.now (certificate_text (certificate_of search.now))))) }
-    ensures begins { OnErr result (Steps (D.told desk.old) (D.told desk.new) (λ old new. SaysOnly [] old new ⊎ BeginsToStore (Some (name.now, certificate_text (certificate_of search.now))) old new)) }
+    ensures stores { OnOk result (Steps (D.told desk.old) (D.told desk.new)
+        (Gives (storing name.now (certificate_text (certificate_of search.now))))) }
+    ensures begins { OnErr result (Steps (D.told desk.old) (D.told desk.new)
+        (λ old new. SaysOnly [] old new ⊎ BeginsToStore
+        (Some (name.now, certificate_text (certificate_of search.now))) old new)) }
     ensures unread { Steps (D.told desk.old) (D.told desk.new) (λ old new. new.left ≡ old.left) }
     ensures cause { HasCause (D.faults desk.old) (D.faults desk.new) result }
     ensures stopped { D.stopped desk.new ≡ is_err result }
@@ -84,8 +93,10 @@ fn store<D: Desk>(desk: &mut D, name: &str, mill: &Mill, search: &Search) -> Res
 
 // Says the summary of a search.
 fn sum_up<D: Desk>(desk: &mut D, mill: &Mill, search: &Search) -> u8
-    ensures finishes { Finishes (status_of search.now) (summed_up mill.now search.now) (D.told desk.old) (D.told desk.new) result }
-    ensures ends { EndsByFaults (D.faults desk.old) (D.faults desk.new) (D.stopped desk.new) result }
+    ensures finishes { Finishes (status_of search.now) (summed_up mill.now search.now)
+        (D.told desk.old) (D.told desk.new) result }
+    ensures ends { EndsByFaults (D.faults desk.old) (D.faults desk.new)
+        (D.stopped desk.new) result }
     ensures named { D.named desk.new ≡ D.named desk.old }
 {
     match say_summary(

@@ -1,7 +1,7 @@
 //! What the program `slabfront` does: its words, the answers that they ask for, and the texts that it says.
 //!
 //! Read `words` first (what is asked), then `ending` (what a run finds before it stores or says anything), `files`, `cut`,
-//! `judge`, `search` and `solve` (how it finds that), `giving` (how it stores and says it), and last `program`, the whole run, and `laws`.
+//! `judge`, `names`, `search` and `solve` (how it finds that), `giving` (how it stores and says it), and last `program`, the whole run, and `laws`.
 //! What a run owes stands in `specs/Owed` and `specs/Searched`.
 #![tactic(auto)]
 
@@ -11,6 +11,7 @@ mod files;
 mod giving;
 mod judge;
 mod laws;
+mod names;
 mod program;
 mod search;
 mod solve;

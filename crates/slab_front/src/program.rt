@@ -6,16 +6,18 @@ ghost use Rattle.slab_desk.specs.Desk.{Steps};
 ghost use Rattle.slab_relax.specs.Tallies.{AreNoLess};
 ghost use Rattle.run_words.specs.Texts.{usage_text as usage_line};
 ghost use Rattle.run_words.specs.Ends.{EndsByFaults};
+ghost use Rattle.run_words.specs.Opens.{HasOpened};
 ghost use Rattle.slab_front.specs.Jobs.{command_of, IsInRanges};
 ghost use Rattle.slab_front.specs.Words.{job_of};
 ghost use Rattle.slab_front.specs.Outcomes.{Ran};
 ghost use Rattle.slab_front.specs.Owed.{Owes, OwesOfCommand, Exactly, MayEnd, LeavesUnread};
 ghost use Rattle.slab_front.specs.Endings.{HasOnlyRead, IsAnswer, IsStop, IsStoppedBy, MayAnswer};
-ghost use Rattle.slab_front.specs.Opens.{AsksInOrder, HasOpened, IsOpenedFor};
+ghost use Rattle.slab_front.specs.Opens.{AsksInOrder, IsOpenedFor};
 
 use crate::ending::{Answer, Stop};
 use crate::giving::{give, say};
 use crate::judge::judge;
+use crate::names::{MillNames, SearchNames};
 use crate::solve::{make, resume, solve};
 use crate::texts::usage_text;
 use crate::words::{Job, UsageAt, read_words};
@@ -46,17 +48,21 @@ pub fn run<D: Desk>(alloc: Global, words: &[String], desk: &mut D, tally: &mut T
         (Ran (Owes (map string_bytes words.now) tally.old tally.new) result) }
 
     // Whether the desk tells or not.
-    ensures status { MayEnd (job_of (map string_bytes words.now)) result ⊎ ((result ≡ 5) ⊎ (result ≡ 6)) }
-    ensures unread { Steps (D.told desk.old) (D.told desk.new) (LeavesUnread (job_of (map string_bytes words.now))) }
+    ensures status { MayEnd (job_of (map string_bytes words.now)) result ⊎
+        ((result ≡ 5) ⊎ (result ≡ 6)) }
+    ensures unread { Steps (D.told desk.old) (D.told desk.new)
+        (LeavesUnread (job_of (map string_bytes words.now))) }
     ensures fault { result ≡ 5 → Rose (D.faults desk.old) (D.faults desk.new) }
     ensures later { D.faults desk.old ≤ D.faults desk.new }
     ensures stopped { (result ≡ 5) ↔ IsTrue (D.stopped desk.new) }
     ensures kept { result ≢ 5 → D.faults desk.new ≡ D.faults desk.old }
-    ensures rose { D.faults desk.old < last_count → ((result ≡ 5) ↔ (D.faults desk.old < D.faults desk.new)) }
+    ensures rose { D.faults desk.old < last_count →
+        ((result ≡ 5) ↔ (D.faults desk.old < D.faults desk.new)) }
     ensures counters { AreNoLess tally.old tally.new }
 
     // The order of a run: what reads, writes and says may fail at is the outside's.
-    ensures opens { AsksInOrder (job_of (map string_bytes words.now)) (D.told desk.old) result (D.named desk.old) (D.named desk.new) }
+    ensures opens { AsksInOrder (job_of (map string_bytes words.now)) (D.told desk.old) result
+        (D.named desk.old) (D.named desk.new) }
 {
     let job = match read_words(words) {
         Ok(job) => job,
@@ -72,10 +78,12 @@ pub fn run<D: Desk>(alloc: Global, words: &[String], desk: &mut D, tally: &mut T
 
 // Says which word can't stand.
 fn refuse<D: Desk>(alloc: Global, usage: UsageAt, desk: &mut D) -> u8
-    ensures ran { Steps (D.told desk.old) (D.told desk.new) (Ran (λ files. Exactly 1 (usage_line usage.word)) result) }
+    ensures ran { Steps (D.told desk.old) (D.told desk.new)
+        (Ran (λ files. Exactly 1 (usage_line usage.word)) result) }
     ensures status { (result ≡ 1) ⊎ ((result ≡ 5) ⊎ (result ≡ 6)) }
     ensures unread { Steps (D.told desk.old) (D.told desk.new) (λ old new. new.left ≡ old.left) }
-    ensures ends { EndsByFaults (D.faults desk.old) (D.faults desk.new) (D.stopped desk.new) result }
+    ensures ends { EndsByFaults (D.faults desk.old) (D.faults desk.new)
+        (D.stopped desk.new) result }
     ensures named { D.named desk.new ≡ D.named desk.old }
 {
     match usage_text(alloc, usage) {
@@ -92,13 +100,16 @@ fn answer<'a, D: Desk>(
     tally: &mut Tally,
 ) -> Result<Answer<'a>, Stop>
     requires { IsInRanges job }
-    ensures answer { IfOk result (IsAnswer (OwesOfCommand (command_of job.entry) tally.old tally.new) (D.told desk.old)) }
+    ensures answer { IfOk result (IsAnswer (OwesOfCommand (command_of job.entry) tally.old
+        tally.new) (D.told desk.old)) }
     ensures status { MayAnswer (Ok (command_of job.entry)) result }
     ensures reads { HasOnlyRead (IsStop (OwesOfCommand (command_of job.entry) tally.old tally.new))
         (D.told desk.old) (D.told desk.new) (D.faults desk.old) (D.faults desk.new) result }
     ensures stopped { IsStoppedBy result (D.stopped desk.new) }
-    ensures unread { Steps (D.told desk.old) (D.told desk.new) (LeavesUnread (Ok (command_of job.entry))) }
-    ensures named { HasOpened (IsOpenedFor (command_of job.entry) (D.told desk.old) result) (D.named desk.old) (D.named desk.new) }
+    ensures unread { Steps (D.told desk.old) (D.told desk.new)
+        (LeavesUnread (Ok (command_of job.entry))) }
+    ensures named { HasOpened (IsOpenedFor (command_of job.entry) (D.told desk.old) result)
+        (D.named desk.old) (D.named desk.new) }
     ensures counters { AreNoLess tally.old tally.new }
 {
     match job {
@@ -108,7 +119,13 @@ fn answer<'a, D: Desk>(
             yard,
             nodes,
             colours,
-        } => solve(alloc, desk, tally, orders, cert, yard, nodes, colours),
+            rounds,
+            seed,
+        } => {
+            let names = MillNames::new(orders, yard, colours);
+            let how = SearchNames::new(cert, nodes, rounds, seed);
+            solve(alloc, desk, tally, names, how)
+        }
         Job::Resume {
             orders,
             cut,
@@ -116,13 +133,22 @@ fn answer<'a, D: Desk>(
             yard,
             nodes,
             colours,
-        } => resume(alloc, desk, tally, orders, cut, cert, yard, nodes, colours),
+            rounds,
+            seed,
+        } => {
+            let names = MillNames::new(orders, yard, colours);
+            let how = SearchNames::new(cert, nodes, rounds, seed);
+            resume(alloc, desk, tally, names, cut, how)
+        }
         Job::Judge {
             orders,
             plan,
             yard,
             colours,
-        } => Ok(Answer::Text(judge(alloc, desk, orders, plan, yard, colours)?)),
+        } => {
+            let names = MillNames::new(orders, yard, colours);
+            Ok(Answer::Text(judge(alloc, desk, names, plan)?))
+        }
         Job::Make { orders, seed } => Ok(make(alloc, tally, orders, seed)?),
     }
 }

@@ -1,17 +1,19 @@
+// The search of a mill, and what it found.
 ghost use Rattle.std.specs.Prelude.{◌≡◌, [], IfOk};
 ghost use Rattle.mill_model.specs.Mill.{IsBetween};
 ghost use Rattle.mill_model.specs.Fronts.{IsGoodHead};
 ghost use Rattle.mill_model.specs.declared.version.Version.TheVariants.{Two};
+ghost use Rattle.slab_start.specs.Plain.{IsPlainMill};
+ghost use Rattle.slab_sweep.specs.Swept.{IsToldPlainly};
 ghost use Rattle.slab_relax.specs.Tallies.{AreNoLess};
 ghost use Rattle.cert_write.specs.Parts.{certificate_of as certificate_stored};
 ghost use Rattle.slab_front.specs.Words.{most_limit};
 ghost use Rattle.slab_front.specs.Searched.{IsSearched, certificate_of, status_of, word_of};
 
 use cert_write::Stored;
-use mill_model::{Head, Mill};
+use mill_model::{Head, Mill, Starter};
 use mill_report::Word;
 use slab_node::Tally;
-use slab_start::FirstFit;
 use slab_sweep::{Swept, sweep};
 use slab_tree::Nodes;
 use std::alloc::{AllocError, Global};
@@ -39,25 +41,28 @@ impl Model for Search {
     ghost invariant = { λ s. (s.none ≡ []) × HasPointIfWhole s.swept };
 }
 
-/// The Pareto front of a mill by first fit and a sweep, which goes on from the points before. One question's tree may have so many
-/// nodes. The only error is want of memory.
-pub fn search_front(
+/// The Pareto front of a mill by a sweep, which goes on from the points before. A starter's plan opens each question; for a plain
+/// mill it tells a plan without loss. One question's tree may have so many nodes. The only error is want of memory.
+pub fn search_front<S: Starter>(
     alloc: Global,
     mill: &Mill,
+    starter: &mut S,
     before: Head,
     limit: u64,
     tally: &mut Tally,
 ) -> Result<Search, AllocError>
     requires limit { IsBetween 1 most_limit limit }
     requires head { IsGoodHead mill.now before }
-    ensures found { IfOk result (λ s. IsSearched mill.now before limit tally.old tally.new (status_of s) s) }
+    requires plain { IsPlainMill mill.now → IsToldPlainly (S.told starter.old) mill.now }
+    ensures found { IfOk result (λ s. IsSearched (S.told starter.old) mill.now before limit
+        tally.old tally.new (status_of s) s) }
     ensures counters { AreNoLess tally.old tally.new }
 {
     // Its readers tell that a mill is within its limits.
     let _orders = mill.orders();
     let none = no_points(alloc);
     let mut nodes = Nodes::new(limit);
-    let swept = sweep(alloc, mill, &mut FirstFit::new(), before, &mut nodes, tally)?;
+    let swept = sweep(alloc, mill, starter, before, &mut nodes, tally)?;
     Ok(Search {
         swept,
         none,

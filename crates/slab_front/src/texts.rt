@@ -1,3 +1,4 @@
+// The texts that a run says, beside its report.
 ghost use Rattle.std.specs.Prelude.{◌≡◌, ◌≢◌, IfOk};
 ghost use Rattle.std.specs.String.{string_bytes};
 ghost use Rattle.cert_check.specs.Whys.{why_of};

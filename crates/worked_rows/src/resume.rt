@@ -41,12 +41,19 @@ fn resumed(
 // Order file, cut, options, status, and what is said.
 type Resumed = (&'static str, &'static str, &'static str, u8, &'static str);
 
-fn resumed_searches() -> [Resumed; 4] {
+fn resumed_searches() -> [Resumed; 5] {
     [
         (
             THREE_FIVES,
             ONE_POINT,
             " --nodes 1",
+            0,
+            "front 1\npoint 5 2\nnew 10 1 2\nnew 10 3\nnodes 1 bare 0\ncomplete\n",
+        ),
+        (
+            THREE_FIVES,
+            ONE_POINT,
+            " --seed 1 --rounds 20 --nodes 1",
             0,
             "front 1\npoint 5 2\nnew 10 1 2\nnew 10 3\nnodes 1 bare 0\ncomplete\n",
         ),

@@ -4,6 +4,8 @@ use crate::row::{Row, only_says, run_row};
 use std::alloc::{AllocError, Global};
 use std::test::Fail;
 
+const NO_ORDERS: &str = "1 10 1 0";
+
 const ONE: &str = "1 10 1 2 5 1 5 1";
 
 const TWO: &str = "2 4 10 1 2 4 1 4 1";
@@ -28,39 +30,23 @@ fn solved(alloc: Global, orders: &str, yard: &str, options: &str) -> Result<Row,
 // Order file, yard file, options, status, and what is said.
 type Said = (&'static str, &'static str, &'static str, u8, &'static str);
 
-fn fronts() -> [Said; 11] {
-    let front = "front 1\npoint 0 1\nnew 10 1 2\nnodes 2 bare 0\ncomplete\n";
-    let fives = "front 1\npoint 5 2\nnew 10 1 2\nnew 10 3\nnodes 4 bare 0\ncomplete\n";
+const FRONT_OF_NONE: &str = "front 1\npoint 0 0\nnodes 2 bare 0\ncomplete\n";
+
+const FRONT_OF_ONE: &str = "front 1\npoint 0 1\nnew 10 1 2\nnodes 2 bare 0\ncomplete\n";
+
+const FRONT_OF_FIVES: &str = "front 1\npoint 5 2\nnew 10 1 2\nnew 10 3\nnodes 4 bare 0\ncomplete\n";
+
+fn fronts() -> [Said; 7] {
     [
-        (ONE, "", "", 0, front),
-        ("\t1\r\n10 1\n2 005 1 5\x0b1\r\n", "", "", 0, front),
-        (
-            "1 10 1 0",
-            "",
-            "",
-            0,
-            "front 1\npoint 0 0\nnodes 2 bare 0\ncomplete\n",
-        ),
+        (ONE, "", "", 0, FRONT_OF_ONE),
+        ("\t1\r\n10 1\n2 005 1 5\x0b1\r\n", "", "", 0, FRONT_OF_ONE),
+        (NO_ORDERS, "", "", 0, FRONT_OF_NONE),
         (
             THREE_COLOURS,
             "",
             "",
             0,
             "front 1\npoint 9 2\nnew 9 1 2\nnew 9 3\nnodes 4 bare 0\ncomplete\n",
-        ),
-        (
-            THREE_COLOURS,
-            "",
-            " --colours 3",
-            0,
-            "front 1\npoint 0 1\nnew 9 1 2 3\nnodes 2 bare 0\ncomplete\n",
-        ),
-        (
-            THREE_COLOURS,
-            "",
-            " --colours 1",
-            0,
-            "front 1\npoint 18 3\nnew 9 1\nnew 9 2\nnew 9 3\nnodes 2 bare 0\ncomplete\n",
         ),
         (
             "1 4 1 1 5 1",
@@ -76,8 +62,17 @@ fn fronts() -> [Said; 11] {
             4,
             "front 0\nnodes 1 bare 0\nnoplan\n",
         ),
-        (THREE_FIVES, "", "", 0, fives),
-        (THREE_FIVES, "", " --nodes 3", 0, fives),
+        (THREE_FIVES, "", "", 0, FRONT_OF_FIVES),
+    ]
+}
+
+fn fronts_by_options() -> [Said; 8] {
+    let three_together = "front 1\npoint 0 1\nnew 9 1 2 3\nnodes 2 bare 0\ncomplete\n";
+    let three_apart = "front 1\npoint 18 3\nnew 9 1\nnew 9 2\nnew 9 3\nnodes 2 bare 0\ncomplete\n";
+    [
+        (THREE_COLOURS, "", " --colours 3", 0, three_together),
+        (THREE_COLOURS, "", " --colours 1", 0, three_apart),
+        (THREE_FIVES, "", " --nodes 3", 0, FRONT_OF_FIVES),
         (
             THREE_FIVES,
             "",
@@ -85,21 +80,64 @@ fn fronts() -> [Said; 11] {
             3,
             "front 0\nnodes 1 bare 0\nbudget\n",
         ),
+        (
+            NO_ORDERS,
+            "",
+            " --rounds 10000 --seed 4294967295",
+            0,
+            FRONT_OF_NONE,
+        ),
+        // The round's plan has loss 0 and count 2, and doesn't replace the first-fit plan.
+        (
+            "2 4 8 1 2 4 1 4 1",
+            "",
+            " --rounds 1 --seed 0 --nodes 2",
+            0,
+            "front 1\npoint 0 1\nnew 8 1 2\nnodes 2 bare 0\ncomplete\n",
+        ),
+        // A round that forgot the colour limit would put all three on one slab, or two.
+        (
+            THREE_COLOURS,
+            "",
+            " --rounds 20 --colours 1",
+            0,
+            three_apart,
+        ),
+        (
+            THREE_COLOURS,
+            "",
+            " --colours 3 --seed 7 --rounds 20",
+            0,
+            three_together,
+        ),
     ]
+}
+
+// Whether `solve` of these files ends with this status and says this.
+fn is_said(alloc: Global, row: Said) -> Result<bool, AllocError> {
+    let (orders, yard, options, status, said) = row;
+    let row = solved(alloc, orders, yard, options)?;
+    Ok(row.status == status && row.said.as_slice() == said.as_bytes())
 }
 
 #[test]
 fn a_mill_has_its_front(rt: HostRuntime) -> Result<(), Fail> {
-    for (orders, yard, options, status, said) in fronts() {
-        let row = solved(rt.alloc(), orders, yard, options)?;
-        let holds = row.status == status && row.said.as_slice() == said.as_bytes();
-        assert!(rt; holds, "{orders}{options}");
+    for row in fronts() {
+        assert!(rt; is_said(rt.alloc(), row)?, "{}", row.0);
+    }
+    Ok(())
+}
+
+#[test]
+fn options_are_heeded(rt: HostRuntime) -> Result<(), Fail> {
+    for row in fronts_by_options() {
+        assert!(rt; is_said(rt.alloc(), row)?, "{}{}", row.0, row.2);
     }
     Ok(())
 }
 
 // Order file, yard file, options, and how what is said begins: the number of nodes isn't fixed.
-fn points() -> [(&'static str, &'static str, &'static str, &'static str); 6] {
+fn points() -> [(&'static str, &'static str, &'static str, &'static str); 8] {
     let both = "front 2\npoint 0 2\nnew 4 1\nnew 4 2\npoint 2 1\nnew 10 1 2\nnodes ";
     [
         (TWO, "", "", both),
@@ -117,6 +155,8 @@ fn points() -> [(&'static str, &'static str, &'static str, &'static str); 6] {
             "front 1\npoint 0 0\nold 1 1 2\nnodes ",
         ),
         (TWO, "1 8 1 2 1", " --yard yard", both),
+        (TWO, "", " --rounds 1 --seed 0", both),
+        (TWO, "1 8 1 2 1", " --rounds 20 --yard yard", both),
         (
             FIVE_FIVES,
             "",
@@ -156,7 +196,7 @@ fn certificates() -> [(&'static str, &'static str, &'static str); 3] {
             "slabfront 2\npoint 0 1\nnew 10 1 2\nleaf 1 0 0 0\ndone\nleaf 0 10 5 5\n",
         ),
         (
-            "1 10 1 0",
+            NO_ORDERS,
             "",
             "slabfront 2\npoint 0 0\nleaf 1 0\ndone\nleaf 0 1\n",
         ),

@@ -5,7 +5,7 @@ use std::alloc::{AllocError, Global};
 use std::test::Fail;
 
 // The words, and what is said of them.
-fn words() -> [(&'static str, &'static str); 8] {
+fn words() -> [(&'static str, &'static str); 13] {
     [
         ("", "usage word 1\n"),
         ("solve a", "usage word 3\n"),
@@ -15,6 +15,11 @@ fn words() -> [(&'static str, &'static str); 8] {
         ("judge a b --colours 4", "usage word 5\n"),
         ("resume a b", "usage word 4\n"),
         ("resume a b c --nodes 0", "usage word 6\n"),
+        ("solve a b --rounds 10001", "usage word 5\n"),
+        ("solve a b --seed 4294967296", "usage word 5\n"),
+        ("solve a b --rounds 1 --rounds 1", "usage word 6\n"),
+        ("judge a b --rounds 1", "usage word 4\n"),
+        ("resume a b c --rounds 1 --seed", "usage word 8\n"),
     ]
 }
 

@@ -1,10 +1,11 @@
 use Rattle.std.proofs.Common.{ℕ, List, length}
 use Rattle.std.specs.String.{string_bytes}
-use Rattle.run_words.specs.Words.{MillWords, named_mill}
+use Rattle.run_words.specs.Words.{MillWords}
 use Rattle.run_words.specs.Files.{HasValue, HasMill}
 use Rattle.run_words.proofs.Telling.{told_before, told_both}
 use Rattle.slab_front.specs.declared.texts.Source.TheVariants.{Plan as PlanSource}
 use Rattle.mill_read.specs.PlanFile.{plan_file}
+use Rattle.slab_front.specs.Jobs.{mill_named}
 use Rattle.slab_front.specs.Outcomes.{saying}
 use Rattle.slab_front.specs.Owed.{OwesVerdict, OwesOfPlan, OwesOfMill}
 use Rattle.slab_front.proofs.Owing.{owes_mill, owes_value}
@@ -12,7 +13,7 @@ use Rattle.slab_front.proofs.judge.judge.Goals as goal
 
 pub returns-clause-ending : goal.returns-clause-ending
 returns-clause-ending g c =
-    let words : MillWords = named_mill c.args.orders c.args.yard c.args.colours in
+    let words : MillWords = mill_named c.args.names in
     let name : List ℕ = c.args.plan.now in
     let mill = c.in_ok-mill.mill in
     let plan = c.in_ok-plan.plan in

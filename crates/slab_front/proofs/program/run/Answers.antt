@@ -1,4 +1,4 @@
-use Rattle.std.proofs.Common.{string_bytes, Ok, Err, refl}
+use Rattle.std.proofs.Common.{string_bytes, Ok, Err, inl, inr, refl}
 use Rattle.slab_relax.specs.declared.tally.Tally.{Tally}
 use Rattle.slab_front.specs.Words.{Command}
 use Rattle.slab_front.specs.Jobs.{command_of}
@@ -40,17 +40,17 @@ returns-in-Ok-answer-clause-opens g c =
 pub returns-in-Err-Refused-clause-opens : goal.returns-in-Err-Refused-clause-opens
 returns-in-Err-Refused-clause-opens g c =
     let command : Command = command_of c.in-Ok.job in
-    asked_parsed _ (Ok command) _ c.say.result _ _ c.in-Ok.ensures.job (asks_stopped command _ c.answer.result c.say.result _ _ _ c.answer.ensures.named c.say.ensures.named)
+    asked_parsed _ (Ok command) _ c.say.result _ _ c.in-Ok.ensures.job (asks_stopped command _ c.answer.result 2 c.say.result _ _ _ c.answer.ensures.named c.say.ensures.named c.say.ensures.finishes.status (inl refl))
 
 pub returns-in-Err-Memory-clause-opens : goal.returns-in-Err-Memory-clause-opens
 returns-in-Err-Memory-clause-opens g c =
     let command : Command = command_of c.in-Ok.job in
-    asked_parsed _ (Ok command) _ c.say-in-Err-Memory.result _ _ c.in-Ok.ensures.job (asks_stopped command _ c.answer.result c.say-in-Err-Memory.result _ _ _ c.answer.ensures.named c.say-in-Err-Memory.ensures.named)
+    asked_parsed _ (Ok command) _ c.say-in-Err-Memory.result _ _ c.in-Ok.ensures.job (asks_stopped command _ c.answer.result 6 c.say-in-Err-Memory.result _ _ _ c.answer.ensures.named c.say-in-Err-Memory.ensures.named c.say-in-Err-Memory.ensures.finishes.status (inr (inr refl)))
 
 pub returns-in-Err-Fault-clause-opens : goal.returns-in-Err-Fault-clause-opens
 returns-in-Err-Fault-clause-opens g c =
     let command : Command = command_of c.in-Ok.job in
-    asked_parsed _ (Ok command) _ 5 _ _ c.in-Ok.ensures.job (asks_stopped command _ c.answer.result 5 _ _ _ c.answer.ensures.named refl)
+    asked_parsed _ (Ok command) _ 5 _ _ c.in-Ok.ensures.job (asks_stopped command _ c.answer.result 5 5 _ _ _ c.answer.ensures.named refl (inl refl) (inr (inl refl)))
 
 pub returns-in-Err-clause-opens : goal.returns-in-Err-clause-opens
 returns-in-Err-clause-opens g c =

@@ -1,8 +1,11 @@
 use Rattle.std.proofs.Common.{ap}
 use Rattle.mill_model.specs.Mill.{Mill}
 use Rattle.slab_front.specs.Owed.{summed_up}
-use Rattle.slab_front.proofs.Searching.{made_found}
+use Rattle.slab_front.proofs.Searching.{made_found, told_plainly}
 use Rattle.slab_front.proofs.solve.make.Goals as goal
+
+pub search_front-requires-clause-plain : goal.search_front-requires-clause-plain
+search_front-requires-clause-plain c = told_plainly c.in_ok-mill.mill
 
 pub returns-clause-owed : goal.returns-clause-owed
 returns-clause-owed c =
