@@ -46,7 +46,7 @@ for program in "$front" "$check"; do
     name=$(basename "$program")
     for word in "" --help --version; do
         "$program" $word >said 2>told && exit 1 || [ $? = 1 ]
-        [ "$(cat said)" = "usage word 1" ] && [ "$(head -c $((12 + ${#name})) told)" = "usage: $name COM" ]
+        [ "$(cat said)" = "usage word 1" ] && [ "$(head -c $((11 + ${#name})) told)" = "usage: $name COM" ]
     done
     "$program" >said 2>&- && exit 1 || [ $? = 1 ]
     [ "$(cat said)" = "usage word 1" ]
