@@ -1,6 +1,6 @@
 #!/bin/bash
 # Runs of both programs that can't come to an answer end with 5 or 6, never with 0: a word that isn't UTF-8, standard output closed
-# or full, and no memory for the words.
+# or full, and no memory for the words (by `prlimit`).
 # Usage: bench/program_starts.sh        (builds crates/slabfront and crates/slabcheck first)
 set -eu
 cd "$(dirname "$0")/../crates"
@@ -12,23 +12,24 @@ check="$PWD/slabcheck/out/slabcheck"
 cp slabfront/data/orders "$here/orders"
 cd "$here"
 
-# ends STATUS WHAT COMMAND..: the command ends with this status
-ends() {
-    local wanted=$1 what=$2 status=0
-    shift 2
-    "$@" || status=$?
-    [ "$status" = "$wanted" ] || { echo "$what: status $status, not $wanted"; exit 1; }
-    echo "$what: status $status"
+# is STATUS WHAT: the last run ended with this status
+is() {
+    [ "$status" = "$1" ] || { echo "$2: status $status, not $1"; exit 1; }
+    echo "$2: status $status"
 }
 
 solved() { "$front" solve orders again "$@"; }
 checked() { "$check" check orders cert "$@"; }
 for run in solved checked; do
-    ends 5 "$run, a word that isn't UTF-8" "$run" --colours $'\xff' >said
+    status=0; "$run" --colours $'\xff' >said 2>/dev/null || status=$?
+    is 5 "$run, a word that isn't UTF-8"
     [ ! -s said ]
-    ends 5 "$run, standard output closed" "$run" >&-
-    ends 5 "$run, standard output full" "$run" >/dev/full
-    ends 0 "$run" "$run" >said
+    status=0; "$run" >&- 2>/dev/null || status=$?
+    is 5 "$run, standard output closed"
+    status=0; "$run" >/dev/full 2>/dev/null || status=$?
+    is 5 "$run, standard output full"
+    status=0; "$run" >said || status=$?
+    is 0 "$run"
 done
 
 # with little memory for many long words: 6 somewhere, and never 0
@@ -37,11 +38,11 @@ words=()
 for _ in $(seq 30); do words+=("$word"); done
 for program in "$front" "$check"; do
     seen=
-    for kilobytes in $(seq 2000 250 9000); do
+    for kilobytes in $(seq 4000 250 9000); do
         status=0
-        (ulimit -v "$kilobytes"; exec "$program" "${words[@]}") >said 2>/dev/null || status=$?
+        prlimit --as=$((kilobytes * 1024)) "$program" "${words[@]}" >said 2>told || status=$?
         [ "$status" != 0 ] || { echo "$program with $kilobytes kB: status 0"; exit 1; }
-        [ "$status" != 6 ] || seen=$kilobytes
+        [ "$status" != 6 ] || { [ ! -s said ] && seen=$kilobytes; }
     done
     [ -n "$seen" ] || { echo "$program: no run ended with status 6"; exit 1; }
     echo "$(basename "$program") without memory for its words: status 6 (last at $seen kB), never 0"
